@@ -1,0 +1,2 @@
+//! What files are, what a command does to them, and what a token is: definitions alone.
+#![tactic(auto)]
