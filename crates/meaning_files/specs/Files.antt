@@ -1,5 +1,5 @@
 -- What files are.
-use Rattle.std.specs.Prelude.{ℕ, List, Option, refl, Bool}
+use Rattle.std.specs.Prelude.{Some, None, ℕ, List, Option, refl, Bool}
 use Rattle.std.specs.Coded.{Coded, code_by, coded×, coded_ℕ, coded_list, coded_bool, coded_option}
 use Rattle.std.specs.Cmp.Lexicographic.{slice_cmp}
 use Rattle.std.specs.FinMap as map
@@ -21,3 +21,8 @@ file_code =
 
 abbrev pub files_code : Coded Files
 files_code = map.code (coded_list coded_ℕ) file_code
+
+-- the files with a new owner and a new saved owner at a path where there is a file
+abbrev pub with_owner : Files → List ℕ → Owner → Option Owner → Option File → Files
+with_owner files path owner before None = files
+with_owner files path owner before (Some file) = map.insert files path (record { owner = owner; bytes = file.bytes; before = before })
