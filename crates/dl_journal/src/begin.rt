@@ -4,7 +4,7 @@ ghost use Rattle.dl_base.specs.Outside.{Touches, Rose};
 ghost use Rattle.dl_journal.specs.Records.{AllAtRest};
 ghost use Rattle.dl_journal.specs.Steps.{AreShort, ShortAfter, HasRead};
 
-use dl_base::{Area, Bench, BeginFault, Failed};
+use dl_base::{Area, BeginFault, Bench, Failed};
 use std::alloc::Global;
 
 /// Syncs the area and reads all its bytes. It writes nothing.

@@ -9,5 +9,7 @@ mod append;
 mod begin;
 mod journal;
 mod parse;
+#[cfg(test)]
+mod tests;
 
 pub use journal::Journal;
