@@ -1,0 +1,4 @@
+pub mod Files
+pub mod FilesSound
+pub mod Layout
+pub mod Sound
