@@ -1,0 +1,63 @@
+-- What the device calls of an opening and of an append leave, call by call.
+use Rattle.std.proofs.Common.{◌≡◌, ℕ, ◌+◌, ◌≤◌, List, sym, ◌∙◌, subst, arith, inl, inr, Some}
+use Rattle.dl_base.specs.declared.area.Area.{Area}
+use Rattle.dl_base.specs.Outside.{Outside, Torn, TornFrom, Touches}
+use Rattle.dl_base.proofs.Moments.{touches_more, touches_then}
+use Rattle.dl_journal.specs.Extent.{Extent}
+use Rattle.dl_journal.specs.Open.{Keeps, AddsOne, IsOpening}
+use Rattle.dl_journal.specs.Records.{size, AllAtRest}
+use Rattle.dl_journal.specs.Steps.{AllStaged, StillAtRest, HasGateTorn, IsShort, ShortAfter}
+use Rattle.dl_journal.proofs.Records.{records-short}
+use Rattle.dl_journal.proofs.Writes.{torn_behind, torn_gate}
+
+module _ (area : Area) (image : List ℕ → Type 0) (place : ℕ) where
+  -- a write behind the gate
+  behind : (at n : ℕ) (o m : Outside) → place + 1 ≤ at → ((c : List ℕ) → o.image area c → StillAtRest image place c)
+      → Touches area (Torn at n (o.image area)) o m → Touches area (StillAtRest image place) o m
+  behind at n o m le here t = touches_more area _ (StillAtRest image place) o m still t
+    where
+      still : (c : List ℕ) → Torn at n (o.image area) c → StillAtRest image place c
+      still c torn bodies fits all = torn_behind bodies at n torn.0 c (omega (arith, le, fits)) (here torn.0 torn.1 bodies fits all) torn.2
+
+  -- one more call behind the gate
+  pub goes_behind : (at n : ℕ) (o m l : Outside) → place + 1 ≤ at → Touches area (StillAtRest image place) o m → Touches area (Torn at n (m.image area)) m l → Touches area (StillAtRest image place) o l
+  goes_behind at n o m l le first t = touches_then area (StillAtRest image place) o m l first (behind at n m l le first.here t)
+
+pub first_behind : (area : Area) (place at n : ℕ) (o m : Outside) → place + 1 ≤ at → Touches area (Torn at n (o.image area)) o m → Touches area (StillAtRest (o.image area) place) o m
+first_behind area place at n o m le t = behind area (o.image area) place at n o m le (λ c left bodies fits all. all c left) t
+
+-- a call that changes nothing in the area
+pub stays : (area : Area) (Q : List ℕ → Type 0) (o m l : Outside) → Touches area Q o m → Touches area (m.image area) m l → Touches area Q o l
+stays area Q o m l first t = touches_then area Q o m l first (touches_more area _ Q m l first.here t)
+
+-- the write of the gate
+pub on_gate : (area : Area) (place : ℕ) (o m : Outside) → Touches area (Torn place 1 (o.image area)) o m → Touches area (HasGateTorn (o.image area) place) o m
+on_gate area place o m t = touches_more area _ (HasGateTorn (o.image area) place) o m torn t
+  where
+    torn : (c : List ℕ) → Torn place 1 (o.image area) c → HasGateTorn (o.image area) place c
+    torn c t bodies body fits all = torn_gate bodies body t.0 c (all t.0 t.1) (subst (λ (k : ℕ). TornFrom k 1 t.0 c) (sym fits) t.2)
+
+module _ (area : Area) (place : ℕ) (journal : Extent) (body : List ℕ) (o : Outside) where
+  kept : area ≡ journal.area → (bodies : List (List ℕ)) → Keeps journal bodies o → AllAtRest bodies (o.image area)
+  kept at bodies keeps = subst (λ (a : Area). AllAtRest bodies (o.image a)) (sym at) keeps.images
+
+  -- the first step adds nothing yet
+  pub staged_adds : (m : Outside) → area ≡ journal.area → place + 1 ≡ journal.length → Touches area (StillAtRest (o.image area) place) o m → Touches area (AddsOne journal body o) o m
+  staged_adds m at long t = touches_more area _ (AddsOne journal body o) o m (λ c still bodies keeps. inl (still bodies (omega (arith, long, keeps.length)) (kept at bodies keeps))) t
+
+  -- the second adds the body or it doesn't
+  pub opened_adds : (m n : Outside) → area ≡ journal.area → place + 1 ≡ journal.length
+      → ((bodies : List (List ℕ)) → size bodies ≡ place → AllAtRest bodies (o.image area) → AllStaged bodies body (m.image area))
+      → Touches area (HasGateTorn (m.image area) place) m n → Touches area (AddsOne journal body o) m n
+  opened_adds m n at long staged t = touches_more area _ (AddsOne journal body o) m n adds t
+    where
+      adds : (c : List ℕ) → HasGateTorn (m.image area) place c → AddsOne journal body o c
+      adds c torn bodies keeps = let fits : size bodies ≡ place = omega (arith, long, keeps.length) in torn bodies body fits (staged bodies fits (kept at bodies keeps))
+
+-- a first gate in an area that was read as short
+pub opening_short : (area : Area) (o m n : Outside) → ((c : List ℕ) → m.image area c → (o.reads area ≡ Some c) × IsShort c)
+    → Touches area (o.image area) o m → Touches area (ShortAfter (m.image area)) m n → Touches area (IsOpening area o) o n
+opening_short area o m n was read t = touches_then area (IsOpening area o) o m n (touches_more area _ (IsOpening area o) o m (λ c old. inl old) read) (touches_more area _ (IsOpening area o) m n closing t)
+  where
+    closing : (c : List ℕ) → ShortAfter (m.image area) c → IsOpening area o c
+    closing c short = let is = was short.0 short.1 in inr (short.0, is.0, records-short c short.2 ∙ sym (records-short short.0 is.1))

@@ -1,0 +1,4 @@
+pub mod Extent
+pub mod Open
+pub mod Records
+pub mod Steps
