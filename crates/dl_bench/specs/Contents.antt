@@ -1,5 +1,5 @@
 -- What one area of a bench in memory has after some events.
-use Rattle.std.specs.Prelude.{ℕ, ◌≤◌, List, length, cond, nat_le}
+use Rattle.std.specs.Prelude.{ℕ, List, length, cond, nat_le}
 use Rattle.dl_base.specs.declared.area.Area.{Area}
 use Rattle.dl_base.specs.Areas.{is_area}
 use Rattle.dl_base.specs.Outside.{replaced}

@@ -58,13 +58,7 @@ fn calls_do_what_they_say(rt: HostRuntime) -> Result<(), Memory> {
 
 #[test]
 fn a_listed_call_fails_and_changes_nothing(rt: HostRuntime) -> Result<(), Memory> {
-    for kind in [
-        Call::Length,
-        Call::Read,
-        Call::Write,
-        Call::Sync,
-        Call::Say,
-    ] {
+    for kind in [Call::Length, Call::Read, Call::Write, Call::Sync, Call::Say] {
         let mut bench = bench_of(rt.alloc(), Some((kind, 1)), None)?;
         assert!(rt; call(&rt, &mut bench, kind).is_err(), "{kind:?}");
         assert_eq!(rt; bench.area(Area::Rows), b"abcdef".as_slice());

@@ -1,5 +1,5 @@
-use Rattle.std.proofs.Common.{◌≡◌, ◌+◌, length, take, sym, ◌∙◌, ap}
-use Rattle.dl_bench.specs.Contents.{Content, content_of, content_at, content_step}
+use Rattle.std.proofs.Common.{length, take, sym, ◌∙◌, ap}
+use Rattle.dl_bench.specs.Contents.{Content, content_step}
 use Rattle.dl_bench.specs.Laws.{good_after}
 use Rattle.dl_bench.proofs.Contents.{content_more}
 use Rattle.dl_bench.proofs.space.Space.after.Goals as goal
