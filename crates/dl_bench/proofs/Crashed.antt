@@ -5,17 +5,16 @@ use Rattle.dl_base.specs.declared.area.Area.TheVariants.{Rows, Links, Files, Arc
 use Rattle.dl_bench.specs.declared.event.Event.{Event}
 use Rattle.dl_bench.specs.declared.event.Pick.{Pick}
 use Rattle.dl_bench.specs.declared.event.Pick.TheVariants as picks
-use Rattle.dl_bench.specs.declared.space.Spaces.{Spaces}
 use Rattle.dl_bench.specs.Replay.{State, state_after, picked, puts}
 use Rattle.dl_bench.specs.Laws.{good_after}
 use Rattle.dl_bench.specs.Tallies.{fresh}
-use Rattle.dl_bench.specs.Tapes.{space_of, space_picked, IsReplayed}
+use Rattle.dl_bench.specs.Contents.{content_at, content_picked}
 use Rattle.dl_bench.specs.Traces.{Trace, content, IsCrashed}
 
-pub picked_is : (pick : Pick) (es : List Event) (spaces : Spaces) (said : List ℕ) (a : Area) → IsReplayed es spaces said → space_picked pick (space_of spaces a) ≡ picked pick (state_after es) a
-picked_is picks.Kept es spaces said a r = (r.areas a).kept
-picked_is picks.Lost es spaces said a r = (r.areas a).lost
-picked_is picks.Torn es spaces said a r = (r.areas a).torn
+pub picked_is : (pick : Pick) (s : State) (a : Area) → content_picked pick (content_at s a) ≡ picked pick s a
+picked_is picks.Kept s a = refl
+picked_is picks.Lost s a = refl
+picked_is picks.Torn s a = refl
 
 pub picked_image : (pick : Pick) (es : List Event) (a : Area) → (state_after es).image a (picked pick (state_after es) a)
 picked_image picks.Kept es a = (good_after es a).kept

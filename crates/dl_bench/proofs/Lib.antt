@@ -2,3 +2,4 @@ pub mod Crashed
 pub mod Replayed
 pub mod Touch
 pub mod Seen
+pub mod Contents

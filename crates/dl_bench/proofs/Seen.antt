@@ -3,8 +3,8 @@ use Rattle.std.proofs.Common.{◌≡◌, ℕ, ◌≤◌, List, [], ◌∷◌, �
 use Rattle.dl_base.specs.declared.area.Area.{Area}
 use Rattle.dl_base.specs.Outside.{Touches, Says, Torn, replaced}
 use Rattle.dl_bench.specs.declared.event.Event.{Event}
-use Rattle.dl_bench.specs.declared.event.Event.TheVariants.{Put, Write, Sync, Say}
-use Rattle.dl_bench.specs.Replay.{State, step, start, state_after, outside_of}
+use Rattle.dl_bench.specs.declared.event.Event.TheVariants.{Write, Sync, Say}
+use Rattle.dl_bench.specs.Replay.{State, start, state_after, outside_of}
 use Rattle.dl_bench.specs.Laws.{run-push}
 use Rattle.dl_bench.specs.Tallies.{faults}
 use Rattle.dl_bench.specs.Traces.{Trace, seen, content}

@@ -1,5 +1,5 @@
 -- Which calls of a bench in memory fail, and how many did.
-use Rattle.std.specs.Prelude.{◌≡◌, ℕ, ◌+◌, ◌-◌, ◌^◌, ◌==◌, ◌&&◌, ◌||◌, min, nat_lt, Bool, false, if◌then◌else◌, List, [], ◌∷◌, Option, Some, None, slice_index, slice_set}
+use Rattle.std.specs.Prelude.{ℕ, ◌+◌, ◌-◌, ◌^◌, ◌==◌, ◌&&◌, ◌||◌, min, nat_lt, Bool, false, if◌then◌else◌, List, [], ◌∷◌, Option, Some, None, slice_index, slice_set}
 use Rattle.std.specs.List.{list_any}
 use Rattle.dl_bench.specs.declared.call.Call.{Call}
 use Rattle.dl_bench.specs.declared.call.Call.TheVariants.{Length, Read, Write, Sync, Say}

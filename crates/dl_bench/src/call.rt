@@ -1,4 +1,4 @@
-/// The kinds of calls of a bench.
+/// The kinds of calls of a bench, each of which is counted from 1.
 #[derive(Clone, Copy, Debug, PartialEq, Eq)]
 pub enum Call {
     Length,

@@ -1,6 +1,7 @@
 //! A bench and a source in memory, which fail where they are told to. Tests run the program over them.
 #![tactic(auto)]
 
+mod areas;
 mod call;
 mod event;
 mod memory;
@@ -13,3 +14,6 @@ pub use call::Call;
 pub use event::Pick;
 pub use memory::MemoryBench;
 pub use source::MemorySource;
+
+#[cfg(test)]
+mod tests;

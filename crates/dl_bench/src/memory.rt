@@ -32,7 +32,11 @@ impl Model for MemoryBench {
 
 impl MemoryBench {
     /// Areas with no bytes. The nth call of a kind that is listed fails, counted from 1, and each call after as many as the fuse says.
-    pub fn new(alloc: Global, failing: List<(Call, u64)>, fuse: Option<u64>) -> Result<MemoryBench, Memory>
+    pub fn new(
+        alloc: Global,
+        failing: List<(Call, u64)>,
+        fuse: Option<u64>,
+    ) -> Result<MemoryBench, Memory>
         ensures { IfOk result (λ made. made ≡ record { events = []; tally = fresh failing fuse }) }
     {
         Ok(MemoryBench {

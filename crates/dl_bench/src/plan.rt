@@ -104,7 +104,5 @@ fn kind_number(call: Call) -> usize
 fn is_listed(failing: &[(Call, u64)], call: Call, number: u64) -> bool
     ensures { result ≡ is_listed failing.now call number }
 {
-    failing
-        .iter()
-        .any(|f| f.0 == call && f.1 == number)
+    failing.iter().any(|f| f.0 == call && f.1 == number)
 }

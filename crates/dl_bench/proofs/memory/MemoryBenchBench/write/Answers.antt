@@ -1,4 +1,4 @@
-use Rattle.std.proofs.Common.{◌≡◌, ℕ, ◌≤◌, length, refl, sym, subst}
+use Rattle.std.proofs.Common.{◌≤◌, length, refl, sym, subst}
 use Rattle.dl_bench.specs.Traces.{Trace, content}
 use Rattle.dl_bench.proofs.Seen.{touches_written, reads_written}
 use Rattle.dl_bench.proofs.memory.MemoryBenchBench.write.Goals as goal
