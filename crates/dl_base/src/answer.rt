@@ -1,5 +1,5 @@
 // What a line or a step is answered.
-use crate::{Path, Text};
+use crate::{Name, Path, Text};
 
 /// A bound of the system that one more would pass.
 #[derive(Clone, Copy, Debug, PartialEq, Eq)]
@@ -27,6 +27,8 @@ pub enum Limit {
 pub enum FileRefusal {
     /// No file has the path.
     NoFile(Path),
+    /// The file belongs to another user, who is named.
+    NotOwner(Path, Name),
     /// A file has the path.
     Exists(Path),
     /// One more file would pass a bound.

@@ -17,6 +17,8 @@ mod same;
 mod source;
 mod sql_fault;
 mod statement;
+#[cfg(test)]
+mod tests;
 mod text;
 mod value;
 

@@ -48,6 +48,9 @@ impl Journal {
         ensures open { IfOk result (λ r. IsOpen r.0 (B.outside bench.new)) }
         ensures journal { IfOk result (λ r. (r.0.area ≡ area) × (r.0.limit ≡ limit)) }
 
+        // Where there are records, nothing was written.
+        ensures unwritten { IfOk result (λ r. 0 < length r.1 → IsUnwritten area (B.outside bench.old) (B.outside bench.new)) }
+
         // A crash at any moment leaves what it might have left before, or the list that the area reads.
         ensures images { Touches area (IsOpening area (B.outside bench.old)) (B.outside bench.old) (B.outside bench.new) }
 

@@ -1,0 +1,4 @@
+pub mod Crashed
+pub mod Replayed
+pub mod Touch
+pub mod Seen

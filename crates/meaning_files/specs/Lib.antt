@@ -1,0 +1,5 @@
+pub mod Commands
+pub mod Files
+pub mod Hmac
+pub mod Links
+pub mod Tokens
