@@ -30,8 +30,9 @@ impl Model for Journal {
 }
 
 impl Journal {
-    /// Syncs an area, and gives the bodies of its records in order. The limit is the most bytes that appends may fill.
-    /// An area of fewer than two bytes gets a closed gate. `Memory` comes only where there is none.
+    /// Syncs an area, and gives the bodies of its records in order. An area of fewer than two bytes gets a closed gate.
+    /// Appends fill it up to the limit, in bytes; what stands there already may be longer.
+    /// `NotAJournal` has the place, from 0, of the gate of the first record that passes the area's end.
     pub fn begin<B: Bench>(
         alloc: Global,
         bench: &mut B,
@@ -53,6 +54,7 @@ impl Journal {
         // A crash at any moment leaves what it might have left before, or the list that the area reads.
         ensures images { Touches area (IsOpening area (B.outside bench.old)) (B.outside bench.old) (B.outside bench.new) }
 
+        // Bytes that are no list stay as they are.
         ensures no_list { (place : ℕ) → result ≡ Err (BeginFault.NotAJournal place) → IsNoList place ((B.outside bench.old).reads area) }
         ensures untouched { (place : ℕ) → result ≡ Err (BeginFault.NotAJournal place) → IsUnwritten area (B.outside bench.old) (B.outside bench.new) }
         ensures memory { result ≡ Err BeginFault.Memory → IsUnwritten area (B.outside bench.old) (B.outside bench.new) }
