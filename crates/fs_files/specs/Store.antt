@@ -1,0 +1,61 @@
+-- What contracts see of the files that are open on a bench.
+use Rattle.std.specs.Prelude.{◌≡◌, ◌⊎◌, ℕ, ◌+◌, ◌-◌, ◌<◌, ◌^◌, min, List, [], ◌∷◌, length, Option, Some, IsSome, Ok, refl}
+use Rattle.std.specs.Coded.{Coded, code_by, coded×, coded_ℕ}
+use Rattle.dl_base.specs.Outside.{Outside, Touches}
+use Rattle.dl_base.specs.declared.area.Area.TheVariants as areas
+use Rattle.dl_base.specs.declared.fault.Full.{Full}
+use Rattle.dl_base.specs.declared.fault.Full.TheVariants as fulls
+use Rattle.dl_base.specs.declared.file.FileCmd.{FileCmd}
+use Rattle.dl_base.specs.declared.file.FileWhat.{FileWhat}
+use Rattle.dl_base.specs.declared.file.FileWhat.TheVariants as whats
+use Rattle.dl_codec.specs.declared.files.FilesRecord.{FilesRecord}
+use Rattle.dl_codec.specs.declared.files.FilesRecord.TheVariants as records
+use Rattle.dl_journal.specs.Extent.{Extent}
+use Rattle.dl_journal.specs.Open.{Keeps, IsOpen, AddsOne}
+use Rattle.meaning_areas.specs.FilesArea.{files_of, changes_of, user_record, with_change}
+use Rattle.meaning_files.specs.Files.{Files, files_code}
+
+-- the files, how many bytes their area has up to behind the closing gate, and how many it may have
+pub record Catalog : Type 0 where
+  pub files : Files
+  pub length : ℕ
+  pub limit : ℕ
+
+abbrev pub catalog_code : Coded Catalog
+catalog_code = code_by (Files × (ℕ × ℕ)) (coded× files_code (coded× coded_ℕ coded_ℕ)) (λ c. (c.files, (c.length, c.limit))) (λ p. record { files = p.0; length = p.1.0; limit = p.1.1 }) (λ _. refl)
+
+-- the journal of the area Files
+abbrev pub extent : Catalog → Extent
+extent c = record { area = areas.Files; length = c.length; limit = c.limit }
+
+-- the area has these bodies, whatever a crash leaves of it, and the files are what they stand for
+pub record Holds (c : Catalog) (bodies : List (List ℕ)) (o : Outside) : Type 0 where
+  pub keeps : Keeps (extent c) bodies o
+  pub stands : files_of bodies ≡ Ok c.files
+
+-- the closing gate is there
+abbrev pub IsReady : Catalog → Outside → Type 0
+IsReady c o = IsOpen (extent c) o
+
+-- a command that writes into the area: a create or a delete
+abbrev pub IsWriting : FileWhat → Type 0
+IsWriting (whats.Create path bytes) = Unit {0}
+IsWriting (whats.Delete path) = Unit {0}
+IsWriting _ = ⊥
+
+-- the record of a command
+abbrev pub record_of : FileCmd → List ℕ
+record_of cmd = user_record (changes_of cmd.user cmd.what)
+
+-- the area as it would be with one more body, and that it passes the limit
+abbrev pub full_with : Catalog → List ℕ → Full
+full_with c body = fulls.Area areas.Files (min (c.length + 9 + length body) (2 ^ 64 - 1))
+
+abbrev pub IsFullWith : Catalog → List ℕ → Type 0
+IsFullWith c body = c.limit < c.length + 9 + length body
+
+-- a record with one change, which the fold takes
+abbrev pub IsTakenAlone : Files → FilesRecord → Type 0
+IsTakenAlone files (records.Batch tx []) = ⊥
+IsTakenAlone files (records.Batch tx (made ∷ [])) = IsSome (with_change files made)
+IsTakenAlone files (records.Batch tx (made ∷ other ∷ more)) = ⊥

@@ -1,0 +1,114 @@
+// The files in memory, by their paths.
+ghost use Rattle.std.specs.Prelude.{◌≡◌, ◌<◌, ◌≤◌, ℕ, List, Some, IsOk, OnOk, OnErr, is_some, false, nat_eq};
+ghost use Rattle.std.specs.Cmp.Lexicographic.{pointwise};
+ghost use Rattle.std.specs.FinMap as map;
+ghost use Rattle.std.specs.Option.{option_copied, option_map};
+ghost use Rattle.indexmap.specs.IndexMap.{get, spare as room};
+ghost use Rattle.dl_base.specs.declared.file.File.{File};
+ghost use Rattle.meaning_files.specs.Files.{with_owner};
+
+use dl_base::{File, Memory, Owner, Path};
+use indexmap::IndexMap;
+use std::alloc::Global;
+use std::marker::Model;
+
+/// Files by their paths. Contracts see the files in the order of the paths' bytes, and for how many more there is room.
+#[derive(Drop)]
+pub struct FileTable {
+    entries: IndexMap<Path, File>,
+}
+
+impl Model for FileTable {
+    ghost use Rattle.indexmap.specs.IndexMap.{spare as room};
+    ghost use Rattle.std.specs.FinMap.{from_entries};
+    ghost use Rattle.fs_files.specs.Table.{Table, table_code};
+
+    ghost Value = { Table };
+
+    ghost coded = { table_code };
+
+    ghost view = { λ t. record { files = from_entries t.entries.entries; spare = room t.entries } };
+}
+
+impl FileTable {
+    /// No files. It takes no memory.
+    pub fn empty(alloc: Global) -> FileTable
+        ensures { result.files ≡ map.empty }
+    {
+        FileTable {
+            entries: IndexMap::new(alloc),
+        }
+    }
+
+    /// The file at a path. It takes no memory.
+    pub fn get(&self, path: &Path) -> Option<&File>
+        ensures { option_copied result ≡ map.get self.now.files path.now }
+    {
+        self.entries.get(path)
+    }
+
+    /// How many files there are.
+    pub fn len(&self) -> usize
+        ensures { result ≡ map.len self.now.files }
+    {
+        self.entries.len()
+    }
+
+    /// Makes room for one more file.
+    pub fn make_room(&mut self) -> Result<(), Memory>
+        ensures files { self.new.files ≡ self.old.files }
+        ensures room { OnOk result (1 ≤ self.new.spare) }
+    {
+        self.entries.reserve(1)?;
+        Ok(())
+    }
+
+    /// Puts a file at a path, in place of any other. Where there is room it takes no memory.
+    pub fn put(&mut self, path: Path, file: File) -> Result<(), Memory>
+        ensures ok { OnOk result (self.new.files ≡ map.insert self.old.files path file) }
+        ensures err { OnErr result (self.new.files ≡ self.old.files) }
+        ensures room { 0 < self.old.spare → IsOk result }
+    {
+        self.entries.insert(path, file)?;
+        Ok(())
+    }
+
+    /// Takes the file at a path away, and says whether there was one. It takes no memory.
+    pub fn remove(&mut self, path: &Path) -> bool
+        ensures found { result ≡ is_some (map.get self.old.files path.now) }
+        ensures removed { self.new.files ≡ map.remove self.old.files path.now }
+    {
+        self.entries.swap_remove(path).is_some()
+    }
+
+    /// Gives the file at a path a new owner and a new saved owner, and says whether there is one. It takes no memory.
+    pub fn set_owner(&mut self, path: &Path, owner: Owner, before: Option<Owner>) -> bool
+        ensures found { result ≡ is_some (map.get self.old.files path.now) }
+        ensures room { self.new.spare ≡ self.old.spare }
+        ensures changed { self.new.files ≡ with_owner self.old.files path.now owner before (map.get self.old.files path.now) }
+    {
+        renew(&mut self.entries, path, owner, before)
+    }
+}
+
+// The owners of the file at a path, if there is one.
+fn renew(
+    entries: &mut IndexMap<Path, File>,
+    path: &Path,
+    owner: Owner,
+    before: Option<Owner>,
+) -> bool
+    ensures found { result ≡ is_some (get (pointwise nat_eq) entries.old path.now) }
+    ensures entry { get (pointwise nat_eq) entries.new path.now ≡ option_map (λ (f : File). record { owner = owner; bytes = f.bytes; before = before }) (get (pointwise nat_eq) entries.old path.now) }
+    ensures others { (q : List ℕ) → pointwise nat_eq path.now q ≡ false → get (pointwise nat_eq) entries.new q ≡ get (pointwise nat_eq) entries.old q }
+    ensures room { room entries.new ≡ room entries.old }
+{
+    match entries.get_mut(path) {
+        Some(file) => {
+            file.owner = owner;
+            file.before = before;
+            true
+        }
+        None => false,
+    }
+}

@@ -1,0 +1,2 @@
+pub mod FilesArea
+pub mod Folds
