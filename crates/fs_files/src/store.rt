@@ -1,9 +1,10 @@
 // The files that are open on a bench.
-ghost use Rattle.std.specs.Prelude.{◌≡◌, ◌<◌, ◌≤◌, ◌^◌, ℕ, List, [], ◌∷◌, ◌++◌, Some, None, Ok, Err, IsSome, IfOk, OnOk, OnErr};
+ghost use Rattle.std.specs.Prelude.{◌≡◌, ◌<◌, ◌≤◌, ◌^◌, ℕ, List, [], ◌∷◌, ◌++◌, Some, None, Ok, Err, IsSome, IsErr, IfOk, OnOk, OnErr};
 ghost use Rattle.std.specs.FinMap as map;
 ghost use Rattle.std.specs.Option.{option_copied};
 ghost use Rattle.dl_base.specs.Outside.{Touches, Rose};
 ghost use Rattle.dl_base.specs.declared.area.Area.TheVariants as areas;
+ghost use Rattle.dl_base.specs.declared.fault.Full.{Full};
 ghost use Rattle.dl_codec.specs.declared.files.FilesRecord.TheVariants.{Batch};
 ghost use Rattle.dl_journal.specs.Open.{IsList, IsOpening, IsUnwritten, AddsOne};
 ghost use Rattle.fs_files.specs.Store.{extent, Holds, IsReady, IsWriting, record_of, full_with, IsFullWith};
@@ -152,6 +153,10 @@ impl Files {
 
         ensures err { OnErr result (self.new ≡ self.old) }
         ensures memory { result ≡ Err StepFault.Memory → bench.new ≡ bench.old }
+
+        // It is full only where the record would pass the limit. Then nothing is written.
+        ensures full { (full : Full) → result ≡ Err (StepFault.Full full) → (full ≡ full_with self.old (record_of cmd)) × IsFullWith self.old (record_of cmd) }
+        ensures unwritten { IsFullWith self.old (record_of cmd) → (bench.new ≡ bench.old) × IsErr result }
         ensures device { result ≡ Err StepFault.Device → Rose (B.outside bench.old) (B.outside bench.new) }
     {
         let FileCmd { user, what } = cmd;
@@ -182,6 +187,8 @@ impl Files {
         ensures images { Touches areas.Files (AddsOne (extent self.old) (user_record (made ∷ [])) (B.outside bench.old)) (B.outside bench.old) (B.outside bench.new) }
         ensures err { OnErr result (self.new ≡ self.old) }
         ensures memory { result ≡ Err StepFault.Memory → bench.new ≡ bench.old }
+        ensures full { (full : Full) → result ≡ Err (StepFault.Full full) → (full ≡ full_with self.old (user_record (made ∷ []))) × IsFullWith self.old (user_record (made ∷ [])) }
+        ensures unwritten { IsFullWith self.old (user_record (made ∷ [])) → (bench.new ≡ bench.old) × IsErr result }
         ensures device { result ≡ Err StepFault.Device → Rose (B.outside bench.old) (B.outside bench.new) }
     {
         let batch = user_batch(self.alloc, made)?;
