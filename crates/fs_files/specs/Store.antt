@@ -1,18 +1,21 @@
 -- What contracts see of the files that are open on a bench.
-use Rattle.std.specs.Prelude.{◌≡◌, ◌⊎◌, ℕ, ◌+◌, ◌-◌, ◌<◌, ◌^◌, min, List, [], ◌∷◌, length, Option, Some, IsSome, Ok, refl}
+use Rattle.std.specs.Prelude.{◌≡◌, ◌⊎◌, ◌++◌, ℕ, ◌+◌, ◌-◌, ◌<◌, ◌^◌, min, List, [], ◌∷◌, length, Option, Some, IsSome, Ok, refl}
 use Rattle.std.specs.Coded.{Coded, code_by, coded×, coded_ℕ}
-use Rattle.dl_base.specs.Outside.{Outside, Touches}
+use Rattle.dl_base.specs.Outside.{Outside}
 use Rattle.dl_base.specs.declared.area.Area.TheVariants as areas
 use Rattle.dl_base.specs.declared.fault.Full.{Full}
 use Rattle.dl_base.specs.declared.fault.Full.TheVariants as fulls
+use Rattle.dl_base.specs.declared.file.FileChange.{FileChange}
 use Rattle.dl_base.specs.declared.file.FileCmd.{FileCmd}
 use Rattle.dl_base.specs.declared.file.FileWhat.{FileWhat}
 use Rattle.dl_base.specs.declared.file.FileWhat.TheVariants as whats
 use Rattle.dl_codec.specs.declared.files.FilesRecord.{FilesRecord}
 use Rattle.dl_codec.specs.declared.files.FilesRecord.TheVariants as records
 use Rattle.dl_journal.specs.Extent.{Extent}
-use Rattle.dl_journal.specs.Open.{Keeps, IsOpen, AddsOne}
-use Rattle.meaning_areas.specs.FilesArea.{files_of, changes_of, user_record, with_change}
+use Rattle.dl_journal.specs.Open.{Keeps, IsOpen}
+use Rattle.dl_journal.specs.Records.{IsAtRest}
+use Rattle.meaning_areas.specs.FilesArea.{files_of, changes_of, user_record, with_change, with_changes, writes}
+use Rattle.meaning_files.specs.Commands.{changed}
 use Rattle.meaning_files.specs.Files.{Files, files_code}
 
 -- the files, how many bytes their area has up to behind the closing gate, and how many it may have
@@ -32,6 +35,21 @@ extent c = record { area = areas.Files; length = c.length; limit = c.limit }
 pub record Holds (c : Catalog) (bodies : List (List ℕ)) (o : Outside) : Type 0 where
   pub keeps : Keeps (extent c) bodies o
   pub stands : files_of bodies ≡ Ok c.files
+
+-- an area with these bodies, which stand for these files
+pub record Stands (bodies : List (List ℕ)) (files : Files) (c : List ℕ) : Type 0 where
+  pub at_rest : IsAtRest bodies c
+  pub stands : files_of bodies ≡ Ok files
+
+-- of each list that the area holds it has that list, without a user's changes or with their record
+abbrev pub StandsWithout : Catalog → List FileChange → Outside → List ℕ → Type 0
+StandsWithout old made o c = (bodies : List (List ℕ)) (later : Files) → with_changes old.files made ≡ Some later → Holds old bodies o
+    → Stands bodies old.files c ⊎ Stands (bodies ++ user_record made ∷ []) later c
+
+-- the same of a command that is accepted
+abbrev pub StandsAround : Catalog → FileCmd → Outside → List ℕ → Type 0
+StandsAround old cmd o c = (bodies : List (List ℕ)) → Holds old bodies o
+    → Stands bodies old.files c ⊎ Stands (bodies ++ writes old.files cmd) (changed old.files cmd) c
 
 -- the closing gate is there
 abbrev pub IsReady : Catalog → Outside → Type 0

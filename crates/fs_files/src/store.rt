@@ -6,8 +6,8 @@ ghost use Rattle.dl_base.specs.Outside.{Touches, Rose};
 ghost use Rattle.dl_base.specs.declared.area.Area.TheVariants as areas;
 ghost use Rattle.dl_base.specs.declared.fault.Full.{Full};
 ghost use Rattle.dl_codec.specs.declared.files.FilesRecord.TheVariants.{Batch};
-ghost use Rattle.dl_journal.specs.Open.{IsList, IsOpening, IsUnwritten, AddsOne};
-ghost use Rattle.fs_files.specs.Store.{extent, Holds, IsReady, IsWriting, record_of, full_with, IsFullWith};
+ghost use Rattle.dl_journal.specs.Open.{IsList, IsOpening, IsUnwritten};
+ghost use Rattle.fs_files.specs.Store.{Holds, IsReady, IsWriting, StandsWithout, StandsAround, record_of, full_with, IsFullWith};
 ghost use Rattle.meaning_areas.specs.FilesArea.{files_in, with_changes, user_record, writes};
 ghost use Rattle.meaning_files.specs.Commands.{refusal, refusal_of, changed, changed_by, create_refusal, delete_refusal, read_refusal};
 
@@ -149,7 +149,9 @@ impl Files {
         ensures ready { OnOk result (IsReady self.new (B.outside bench.new)) }
 
         // A crash at any moment of the call leaves the list with the record or without.
-        ensures images { Touches areas.Files (AddsOne (extent self.old) (record_of cmd) (B.outside bench.old)) (B.outside bench.old) (B.outside bench.new) }
+        ensures images { Touches areas.Files (StandsAround self.old cmd (B.outside bench.old)) (B.outside bench.old) (B.outside bench.new) }
+
+        ensures limit { self.new.limit ≡ self.old.limit }
 
         ensures err { OnErr result (self.new ≡ self.old) }
         ensures memory { result ≡ Err StepFault.Memory → bench.new ≡ bench.old }
@@ -184,7 +186,8 @@ impl Files {
         ensures files { OnOk result (with_changes self.old.files (made ∷ []) ≡ Some self.new.files) }
         ensures kept { OnOk result ((bodies : List (List ℕ)) → Holds self.old bodies (B.outside bench.old) → Holds self.new (bodies ++ user_record (made ∷ []) ∷ []) (B.outside bench.new)) }
         ensures ready { OnOk result (IsReady self.new (B.outside bench.new)) }
-        ensures images { Touches areas.Files (AddsOne (extent self.old) (user_record (made ∷ [])) (B.outside bench.old)) (B.outside bench.old) (B.outside bench.new) }
+        ensures images { Touches areas.Files (StandsWithout self.old (made ∷ []) (B.outside bench.old)) (B.outside bench.old) (B.outside bench.new) }
+        ensures limit { self.new.limit ≡ self.old.limit }
         ensures err { OnErr result (self.new ≡ self.old) }
         ensures memory { result ≡ Err StepFault.Memory → bench.new ≡ bench.old }
         ensures full { (full : Full) → result ≡ Err (StepFault.Full full) → (full ≡ full_with self.old (user_record (made ∷ []))) × IsFullWith self.old (user_record (made ∷ [])) }

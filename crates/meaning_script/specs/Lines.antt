@@ -57,3 +57,9 @@ file_line (b ∷ rest) = if b == 64 then user_command (cut rest) else None
 -- the command that a line is, if it is one of those that are built
 unfoldable pub command_of : List ℕ → Option FileCmd
 command_of line = if is_quiet line || nat_lt most_bytes (length line) then None else file_line line
+
+-- the commands that are built
+abbrev pub IsBuilt : FileWhat → Type 0
+IsBuilt (Create path bytes) = Unit {0}
+IsBuilt (Read path None) = Unit {0}
+IsBuilt _ = ⊥

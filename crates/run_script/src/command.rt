@@ -1,8 +1,8 @@
 // The command that a line is.
-ghost use Rattle.std.specs.Prelude.{◌≡◌, ◌==◌, IfOk, true};
+ghost use Rattle.std.specs.Prelude.{◌≡◌, ◌==◌, IfOk, IfSome, true};
 ghost use Rattle.std.specs.List.{position};
 ghost use Rattle.std.specs.Option.{option_map};
-ghost use Rattle.meaning_script.specs.Lines.{cut, is_user, is_command_path, create_of, read_of, what_in, user_command, command_of};
+ghost use Rattle.meaning_script.specs.Lines.{cut, is_user, is_command_path, create_of, read_of, what_in, user_command, command_of, IsBuilt};
 
 use crate::is_quiet;
 use dl_base::{FileCmd, FileWhat, Memory, Name, Path, Text, is_name, is_path};
@@ -16,7 +16,8 @@ const MOST_BYTES: usize = 65_536;
 /// the words and at most 65,536 bytes in all.
 #[tactic(auto, unfolding(meaning_script::specs::Lines::command_of))]
 pub fn command_of(alloc: Global, line: &[u8]) -> Result<Option<FileCmd>, Memory>
-    ensures { IfOk result (λ cmd. cmd ≡ command_of line.now) }
+    ensures value { IfOk result (λ cmd. cmd ≡ command_of line.now) }
+    ensures built { IfOk result (λ cmd. IfSome cmd (λ c. IsBuilt c.what)) }
 {
     if is_quiet(line) || line.len() > MOST_BYTES {
         return Ok(None);
@@ -45,7 +46,8 @@ fn space(text: &[u8]) -> Option<usize>
 }
 
 fn user_command(alloc: Global, text: &[u8]) -> Result<Option<FileCmd>, Memory>
-    ensures { IfOk result (λ cmd. cmd ≡ user_command (cut text.now)) }
+    ensures value { IfOk result (λ cmd. cmd ≡ user_command (cut text.now)) }
+    ensures built { IfOk result (λ cmd. IfSome cmd (λ c. IsBuilt c.what)) }
 {
     let Some((user, rest)) = cut(text) else {
         return Ok(None);
@@ -77,7 +79,8 @@ fn user_name(alloc: Global, name: &[u8]) -> Result<Name, Memory>
 }
 
 fn what_in(alloc: Global, text: &[u8]) -> Result<Option<FileWhat>, Memory>
-    ensures { IfOk result (λ what. what ≡ what_in (cut text.now)) }
+    ensures value { IfOk result (λ what. what ≡ what_in (cut text.now)) }
+    ensures built { IfOk result (λ what. IfSome what IsBuilt) }
 {
     let Some((verb, rest)) = cut(text) else {
         return Ok(None);
@@ -92,7 +95,8 @@ fn what_in(alloc: Global, text: &[u8]) -> Result<Option<FileWhat>, Memory>
 }
 
 fn create_of(alloc: Global, text: &[u8]) -> Result<Option<FileWhat>, Memory>
-    ensures { IfOk result (λ what. what ≡ create_of (cut text.now)) }
+    ensures value { IfOk result (λ what. what ≡ create_of (cut text.now)) }
+    ensures built { IfOk result (λ what. IfSome what IsBuilt) }
 {
     let Some((path, bytes)) = cut(text) else {
         return Ok(None);
@@ -105,7 +109,8 @@ fn create_of(alloc: Global, text: &[u8]) -> Result<Option<FileWhat>, Memory>
 }
 
 fn read_of(alloc: Global, path: &[u8]) -> Result<Option<FileWhat>, Memory>
-    ensures { IfOk result (λ what. what ≡ read_of path.now) }
+    ensures value { IfOk result (λ what. what ≡ read_of path.now) }
+    ensures built { IfOk result (λ what. IfSome what IsBuilt) }
 {
     if !is_command_path(path) {
         return Ok(None);

@@ -4,8 +4,32 @@ use Rattle.dl_codec.specs.declared.files.FilesRecord.{FilesRecord}
 use Rattle.dl_codec.specs.declared.files.FilesRecord.TheVariants.{Batch}
 use Rattle.meaning_areas.specs.FilesArea.{user_record, with_changes, with_record}
 use Rattle.meaning_files.specs.Files.{Files}
-use Rattle.fs_files.proofs.Writing.{holds_after}
+use Rattle.fs_files.proofs.Writing.{holds_after, writes_record}
 use Rattle.fs_files.proofs.store.Files.write.Goals as goal
+
+pub returns-in_err-append-clause-images : goal.returns-in_err-append-clause-images
+returns-in_err-append-clause-images g c =
+    let ok = c.in_ok-put_files_record.ensures.ok in
+    let made = c.args.made ∷ [] in
+    let is : c.in_ok-batch.batch ≡ Batch 0 made = c.in_ok-batch.ensures in
+    let spelled : c.as_slice.result.now ≡ user_record made =
+        c.as_slice.ensures ∙ ok.1 ∙ ap (λ (front : List ℕ). front ++ files_record.spelling c.in_ok-batch.batch) c.empty-body.ensures
+        ∙ ap (λ (r : FilesRecord). files_record.spelling r) is in
+    writes_record c.args.self.now c.self.inside.journal c.self.inside.table.files made c.as_slice.result.now
+    (g.B.Bench.outside c.args.bench.now) (g.B.Bench.outside c.append.new.bench)
+    c.self.view_is c.self.invariant (subst (λ (r : FilesRecord). files_record.fits r) is ok.0) spelled c.append.ensures.images
+
+pub returns-clause-images : goal.returns-clause-images
+returns-clause-images g c =
+    let ok = c.in_ok-put_files_record.ensures.ok in
+    let made = c.args.made ∷ [] in
+    let is : c.in_ok-batch.batch ≡ Batch 0 made = c.in_ok-batch.ensures in
+    let spelled : c.as_slice.result.now ≡ user_record made =
+        c.as_slice.ensures ∙ ok.1 ∙ ap (λ (front : List ℕ). front ++ files_record.spelling c.in_ok-batch.batch) c.empty-body.ensures
+        ∙ ap (λ (r : FilesRecord). files_record.spelling r) is in
+    writes_record c.args.self.now c.self.inside.journal c.self.inside.table.files made c.as_slice.result.now
+    (g.B.Bench.outside c.args.bench.now) (g.B.Bench.outside c.append.new.bench)
+    c.self.view_is c.self.invariant (subst (λ (r : FilesRecord). files_record.fits r) is ok.0) spelled c.append.ensures.images
 
 pub returns-clause-kept : goal.returns-clause-kept
 returns-clause-kept g c =

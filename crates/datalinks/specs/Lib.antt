@@ -1,0 +1,5 @@
+pub mod Codes
+pub mod Lines
+pub mod Run
+pub mod Script
+pub mod Words

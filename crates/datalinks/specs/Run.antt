@@ -1,0 +1,69 @@
+-- What a run of a script does, at each moment, and what it leaves.
+use Rattle.std.specs.Prelude.{◌≡◌, ℕ, ◌+◌, ◌-◌, ◌<◌, ◌≤◌, ◌^◌, min, List, ◌++◌, length, take, slice_get, Option, Some, None, Ok}
+use Rattle.std.specs.Str.Lines.{lines}
+use Rattle.dl_base.specs.Outside.{Outside, Pair, extended}
+use Rattle.dl_base.specs.declared.area.Area.TheVariants as areas
+use Rattle.dl_base.specs.declared.fault.Full.{Full}
+use Rattle.dl_base.specs.declared.fault.Full.TheVariants as fulls
+use Rattle.dl_base.specs.declared.file.FileCmd.{FileCmd}
+use Rattle.dl_journal.specs.Open.{IsOpening}
+use Rattle.dl_journal.specs.Records.{records, size}
+use Rattle.fs_files.specs.Store.{record_of}
+use Rattle.meaning_areas.specs.FilesArea.{files_in, written}
+use Rattle.meaning_files.specs.Commands.{refusal}
+use Rattle.meaning_files.specs.Files.{Files}
+use Rattle.meaning_script.specs.Steps.{steps, files_after, text}
+
+-- the steps of a script, and the first k of them
+abbrev pub script_steps : List ℕ → List FileCmd
+script_steps script = steps (lines script)
+
+abbrev pub first_steps : ℕ → List ℕ → List FileCmd
+first_steps k script = take k (script_steps script)
+
+-- the text of a script's lines after k steps, and of all lines
+abbrev pub script_text : ℕ → Files → List ℕ → List ℕ
+script_text k files script = text 1 k files (lines script)
+
+abbrev pub whole_text : Files → List ℕ → List ℕ
+whole_text files script = script_text (length (script_steps script)) files script
+
+-- the second text goes on from the first
+abbrev pub IsFront : List ℕ → List ℕ → Type 0
+IsFront front text = (rest : List ℕ) × (text ≡ front ++ rest)
+
+-- A crash after k steps, from a list of bodies and its files: the area Files has that list and what the k steps wrote,
+-- and stands for the files after them. What was told is a front of the text, and has all lines before that of step k.
+pub record IsAfterSteps (script : List ℕ) (bodies : List (List ℕ)) (files : Files) (before : Option (List ℕ)) (p : Pair) : Type 0 where
+  pub count : ℕ
+  pub some : count ≤ length (script_steps script)
+  pub list : records (p.areas areas.Files) ≡ Ok (bodies ++ written files (first_steps count script))
+  pub recovers : files_in (p.areas areas.Files) ≡ Ok (files_after files (first_steps count script))
+  pub said : List ℕ
+  pub told : extended said before ≡ Some p.told
+  pub not_ahead : IsFront said (script_text count files script)
+  pub not_behind : 0 < count → IsFront (script_text (count - 1) files script) said
+
+-- A crash during an opening: nothing is told, and the area Files has an image that it had, or the list that it read.
+pub record IsOfOpening (o : Outside) (p : Pair) : Type 0 where
+  pub told : o.told ≡ Some p.told
+  pub image : IsOpening areas.Files o (p.areas areas.Files)
+
+-- how many bytes the area Files would have with one more body behind these
+abbrev pub length_with : List (List ℕ) → List ℕ → ℕ
+length_with bodies body = size bodies + 1 + 9 + length body
+
+-- the next step of a script would pass the limit of the area Files
+pub record IsFullAt (script : List ℕ) (bodies : List (List ℕ)) (files : Files) (limit : ℕ) (full : Full) : Type 0 where
+  pub count : ℕ
+  pub cmd : FileCmd
+  pub next : slice_get (script_steps script) count ≡ Some cmd
+  pub accepted : refusal (files_after files (first_steps count script)) cmd ≡ None
+  pub passes : limit < length_with (bodies ++ written files (first_steps count script)) (record_of cmd)
+  pub full_is : full ≡ fulls.Area areas.Files (min (length_with (bodies ++ written files (first_steps count script)) (record_of cmd)) (2 ^ 64 - 1))
+
+-- a whole run: each line is told, and the area has what all steps wrote
+pub record IsWholeRun (script : List ℕ) (bodies : List (List ℕ)) (files : Files) (o n : Outside) : Type 0 where
+  pub told : n.told ≡ extended (whole_text files script) o.told
+  pub list : (bytes : List ℕ) → n.reads areas.Files ≡ Some bytes → records bytes ≡ Ok (bodies ++ written files (script_steps script))
+  pub stands : (bytes : List ℕ) → n.reads areas.Files ≡ Some bytes → files_in bytes ≡ Ok (files_after files (script_steps script))
