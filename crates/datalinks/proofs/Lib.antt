@@ -1,1 +1,5 @@
 pub mod Sources
+pub mod Causes
+pub mod Running
+pub mod Turning
+pub mod Whole

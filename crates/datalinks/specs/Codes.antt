@@ -1,5 +1,12 @@
 -- The exit status of each end.
 use Rattle.std.specs.Prelude.{ℕ}
+use Rattle.dl_base.specs.declared.area.Area.TheVariants as areas
+use Rattle.dl_base.specs.declared.fault.BeginFault.{BeginFault}
+use Rattle.dl_base.specs.declared.fault.BeginFault.TheVariants as begins
+use Rattle.dl_base.specs.declared.fault.StepFault.{StepFault}
+use Rattle.dl_base.specs.declared.fault.StepFault.TheVariants as steps
+use Rattle.datalinks.specs.declared.script.ScriptFault.{ScriptFault}
+use Rattle.datalinks.specs.declared.script.ScriptFault.TheVariants as scripts
 use Rattle.datalinks.specs.declared.status.Status.{Status}
 use Rattle.datalinks.specs.declared.status.Status.TheVariants as status
 
@@ -12,3 +19,26 @@ code_of (status.NotAStore area place) = 5
 code_of (status.Full full) = 6
 code_of (status.TooLong n) = 7
 code_of status.Memory = 9
+
+-- the ends of a run whose words are right and whose script was read
+abbrev pub IsRunEnd : Status → Type 0
+IsRunEnd status.Usage = ⊥
+IsRunEnd status.Source = ⊥
+IsRunEnd (status.TooLong n) = ⊥
+IsRunEnd _ = Unit {0}
+
+-- the end that a fault of an opening of the area Files makes, and that of a step
+abbrev pub opening_end : BeginFault → Status
+opening_end begins.Device = status.Device
+opening_end (begins.NotAJournal place) = status.NotAStore areas.Files place
+opening_end begins.Memory = status.Memory
+
+abbrev pub step_end : StepFault → Status
+step_end steps.Device = status.Device
+step_end (steps.Full full) = status.Full full
+step_end steps.Memory = status.Memory
+
+abbrev pub script_end : ScriptFault → Status
+script_end scripts.Source = status.Source
+script_end (scripts.TooLong n) = status.TooLong n
+script_end scripts.Memory = status.Memory

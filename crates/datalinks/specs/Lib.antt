@@ -1,3 +1,4 @@
+pub mod Blind
 pub mod Codes
 pub mod Lines
 pub mod Run

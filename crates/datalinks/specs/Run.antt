@@ -1,15 +1,16 @@
 -- What a run of a script does, at each moment, and what it leaves.
-use Rattle.std.specs.Prelude.{◌≡◌, ℕ, ◌+◌, ◌-◌, ◌<◌, ◌≤◌, ◌^◌, min, List, ◌++◌, length, take, slice_get, Option, Some, None, Ok}
+use Rattle.std.specs.Prelude.{◌≡◌, ◌⊎◌, ℕ, ◌+◌, ◌-◌, ◌<◌, ◌≤◌, ◌^◌, min, List, ◌++◌, length, take, slice_get, Option, Some, None, Ok, Err, IsOk}
 use Rattle.std.specs.Str.Lines.{lines}
 use Rattle.dl_base.specs.Outside.{Outside, Pair, extended}
+use Rattle.dl_base.specs.declared.area.Area.{Area}
 use Rattle.dl_base.specs.declared.area.Area.TheVariants as areas
 use Rattle.dl_base.specs.declared.fault.Full.{Full}
 use Rattle.dl_base.specs.declared.fault.Full.TheVariants as fulls
 use Rattle.dl_base.specs.declared.file.FileCmd.{FileCmd}
-use Rattle.dl_journal.specs.Open.{IsOpening}
+use Rattle.dl_journal.specs.Open.{IsOpening, IsUnwritten}
 use Rattle.dl_journal.specs.Records.{records, size}
-use Rattle.fs_files.specs.Store.{record_of}
-use Rattle.meaning_areas.specs.FilesArea.{files_in, written}
+use Rattle.fs_files.specs.Store.{Catalog, Holds, record_of}
+use Rattle.meaning_areas.specs.FilesArea.{files_in, files_of, written}
 use Rattle.meaning_files.specs.Commands.{refusal}
 use Rattle.meaning_files.specs.Files.{Files}
 use Rattle.meaning_script.specs.Steps.{steps, files_after, text}
@@ -44,10 +45,32 @@ pub record IsAfterSteps (script : List ℕ) (bodies : List (List ℕ)) (files : 
   pub not_ahead : IsFront said (script_text count files script)
   pub not_behind : 0 < count → IsFront (script_text (count - 1) files script) said
 
+-- at the begin of a run the area Files reads as these bodies, and they stand for these files
+pub record IsEntry (o : Outside) (bodies : List (List ℕ)) (files : Files) : Type 0 where
+  pub bytes : List ℕ
+  pub reads : o.reads areas.Files ≡ Some bytes
+  pub list : records bytes ≡ Ok bodies
+  pub stands : files_of bodies ≡ Ok files
+
+-- whatever a crash leaves of the area Files stands for some files
+abbrev pub AllStand : Outside → Type 0
+AllStand o = (c : List ℕ) → o.image areas.Files c → IsOk (files_in c)
+
 -- A crash during an opening: nothing is told, and the area Files has an image that it had, or the list that it read.
 pub record IsOfOpening (o : Outside) (p : Pair) : Type 0 where
   pub told : o.told ≡ Some p.told
   pub image : IsOpening areas.Files o (p.areas areas.Files)
+  pub stands : IsOk (files_in (p.areas areas.Files))
+
+-- a crash at a moment of a run
+abbrev pub IsInRun : List ℕ → List (List ℕ) → Files → Outside → Pair → Type 0
+IsInRun script bodies files o p = IsOfOpening o p ⊎ IsAfterSteps script bodies files o.told p
+
+-- the area is no list of records, or its records stand for nothing: nothing was written
+pub record IsNoStore (area : Area) (place : ℕ) (o n : Outside) : Type 0 where
+  pub area_is : area ≡ areas.Files
+  pub bad : (bytes : List ℕ) → o.reads areas.Files ≡ Some bytes → files_in bytes ≡ Err place
+  pub unwritten : IsUnwritten areas.Files o n
 
 -- how many bytes the area Files would have with one more body behind these
 abbrev pub length_with : List (List ℕ) → List ℕ → ℕ
@@ -67,3 +90,13 @@ pub record IsWholeRun (script : List ℕ) (bodies : List (List ℕ)) (files : Fi
   pub told : n.told ≡ extended (whole_text files script) o.told
   pub list : (bytes : List ℕ) → n.reads areas.Files ≡ Some bytes → records bytes ≡ Ok (bodies ++ written files (script_steps script))
   pub stands : (bytes : List ℕ) → n.reads areas.Files ≡ Some bytes → files_in bytes ≡ Ok (files_after files (script_steps script))
+
+-- the same of the lines alone, from files that are open
+pub record AreDone (script : List ℕ) (bodies : List (List ℕ)) (first last : Catalog) (o n : Outside) : Type 0 where
+  pub told : n.told ≡ extended (whole_text first.files script) o.told
+  pub holds : Holds last (bodies ++ written first.files (script_steps script)) n
+  pub files : last.files ≡ files_after first.files (script_steps script)
+
+-- the most bytes that the area Files may have
+abbrev pub most_area : ℕ
+most_area = 1099511627776

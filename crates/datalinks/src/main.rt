@@ -2,10 +2,56 @@
 //! output.
 #![tactic(auto)]
 
+mod folder;
+mod input;
+mod line;
+mod run;
 mod script;
+mod single;
 mod status;
 mod words;
 
-fn main(rt: HostRuntime) {
-    let _ = rt;
+use dl_base::{List, Memory, Text};
+use folder::FolderBench;
+use input::InputSource;
+use single::single;
+use status::Status;
+use std::env;
+use std::process::ExitCode;
+
+/// The words behind the program's name; none where they can't be had.
+fn given_words(rt: &HostRuntime) -> Result<Option<List<Text>>, Memory> {
+    let mut words = List::empty(rt.alloc());
+    let Ok(args) = env::args(rt) else {
+        return Ok(None);
+    };
+    for word in args.skip(1) {
+        words.push(Text::of(rt.alloc(), word.as_bytes())?)?;
+    }
+    Ok(Some(words))
+}
+
+fn outcome(rt: HostRuntime) -> Status {
+    match given_words(&rt) {
+        Ok(Some(words)) => {
+            let mut source = InputSource::new(rt);
+            let (end, _) = single(
+                rt.alloc(),
+                words.as_slice(),
+                &mut source,
+                FolderBench::new(rt),
+            );
+            end
+        }
+        Ok(None) => Status::Usage,
+        Err(Memory) => Status::Memory,
+    }
+}
+
+fn main(rt: HostRuntime) -> ExitCode {
+    let code = outcome(rt).code();
+    if code != 0 {
+        let _ = eprintln!(rt; "datalinks: status {code}");
+    }
+    ExitCode::from(code)
 }

@@ -1,0 +1,230 @@
+-- A run, line by line.
+use Rattle.std.proofs.Common.{◌≡◌, ◌⊎◌, inl, inr, ⊎_elim, ℕ, suc, ◌+◌, ◌-◌, ◌<◌, ◌≤◌, List, [], ◌∷◌, ◌++◌, length, take, drop, refl, sym, ap, subst, ◌∙◌, arith, append_assoc, length-append, Option, Some, None, Ok, add-one}
+use Rattle.std.proofs.lemmas.List.{append-nil, take-append-drop, take_at, length-take-le, take_all}
+use Rattle.std.specs.Str.Lines.{lines}
+use Rattle.dl_base.proofs.Moments.{moments_more, moments_then}
+use Rattle.dl_base.specs.Outside.{Outside, Pair, Moments, TellsFront, extended}
+use Rattle.dl_base.specs.declared.area.Area.TheVariants as areas
+use Rattle.dl_base.specs.declared.file.FileCmd.{FileCmd}
+use Rattle.dl_journal.proofs.Records.{records-at_rest}
+use Rattle.dl_journal.specs.Records.{records}
+use Rattle.fs_files.specs.Store.{Catalog, Holds, Stands}
+use Rattle.meaning_areas.specs.FilesArea.{files_in, files_of_list, writes, written}
+use Rattle.meaning_files.specs.Commands.{file_command}
+use Rattle.meaning_files.specs.Files.{Files}
+use Rattle.meaning_script.specs.Lines.{command_of}
+use Rattle.meaning_script.specs.Steps.{steps, files_after, line_files, text, text_after, told_answer, line_answer}
+use Rattle.datalinks.specs.Lines.{line_writes, line_told, IsInStep, IsTelling, IsInLine, IsAfterLine}
+use Rattle.datalinks.specs.Run.{script_steps, first_steps, script_text, IsFront, IsAfterSteps}
+
+-- ---- lists of steps
+
+files_after-push : (files : Files) (xs : List FileCmd) (c : FileCmd) → files_after files (xs ++ c ∷ []) ≡ (file_command (files_after files xs) c).1
+files_after-push files [] c = refl
+files_after-push files (x ∷ xs) c = files_after-push (file_command files x).1 xs c
+
+written-push : (files : Files) (xs : List FileCmd) (c : FileCmd) → written files (xs ++ c ∷ []) ≡ written files xs ++ writes (files_after files xs) c
+written-push files [] c = append-nil (writes files c)
+written-push files (x ∷ xs) c =
+    ap (λ (more : List (List ℕ)). writes files x ++ more) (written-push (file_command files x).1 xs c)
+    ∙ sym (append_assoc (writes files x) (written (file_command files x).1 xs) (writes (files_after files (x ∷ xs)) c))
+
+-- ---- what stands in an area
+
+pub stands_list : (bodies : List (List ℕ)) (files : Files) (c : List ℕ) → Stands bodies files c → records c ≡ Ok bodies
+stands_list bodies files c s = records-at_rest bodies c s.at_rest
+
+pub stands_files : (bodies : List (List ℕ)) (files : Files) (c : List ℕ) → Stands bodies files c → files_in c ≡ Ok files
+stands_files bodies files c s = ap files_of_list (records-at_rest bodies c s.at_rest) ∙ s.stands
+
+-- ---- a run so far
+
+-- so many lines are done, and these bytes of the script are left
+pub record Reached (script : List ℕ) (bodies : List (List ℕ)) (first : Catalog) (o : Outside) (now : Catalog) (rest : List ℕ) (number : ℕ) (m : Outside) : Type 0 where
+  pub count : ℕ
+  pub said : List ℕ
+  pub steps_are : script_steps script ≡ first_steps count script ++ script_steps rest
+  pub counted : length (first_steps count script) ≡ count
+  pub files : now.files ≡ files_after first.files (first_steps count script)
+  pub holds : Holds now (bodies ++ written first.files (first_steps count script)) m
+  pub told : m.told ≡ extended said o.told
+  pub texts : (k : ℕ) → script_text (count + k) first.files script ≡ said ++ text number k now.files (lines rest)
+  pub behind : 0 < count → IsFront (script_text (count - 1) first.files script) said
+
+extended-none : (o : Option (List ℕ)) → o ≡ extended [] o
+extended-none None = refl
+extended-none (Some told) = ap (λ (l : List ℕ). Some l) (sym (append-nil told))
+
+extended-append : (a b : List ℕ) (o : Option (List ℕ)) → extended b (extended a o) ≡ extended (a ++ b) o
+extended-append a b None = refl
+extended-append a b (Some told) = ap (λ (l : List ℕ). Some l) (append_assoc told a b)
+
+front_more : (front text more : List ℕ) → IsFront front text → IsFront front (text ++ more)
+front_more front text more is = (is.0 ++ more, ap (λ (l : List ℕ). l ++ more) is.1 ∙ append_assoc front is.0 more)
+
+-- at the first line
+pub reached_none : (script : List ℕ) (bodies : List (List ℕ)) (first : Catalog) (o : Outside) → Holds first bodies o → Reached script bodies first o first script 1 o
+reached_none script bodies first o held = record {
+  count = 0;
+  said = [];
+  steps_are = refl;
+  counted = refl;
+  files = refl;
+  holds = subst (λ (l : List (List ℕ)). Holds first l o) (sym (append-nil bodies)) held;
+  told = extended-none o.told;
+  texts = λ k. ap (λ (j : ℕ). script_text j first.files script) (omega arith);
+  behind = λ none. absurd (omega arith);
+}
+
+module _ (script : List ℕ) (bodies : List (List ℕ)) (first : Catalog) (o : Outside) (now : Catalog) (rest : List ℕ) (number : ℕ) (m : Outside) (r : Reached script bodies first o now rest number m) where
+  -- the list that the area has so far
+  abbrev pub so_far : List (List ℕ)
+  so_far = bodies ++ written first.files (first_steps r.count script)
+
+  enough : length (script_steps script) ≡ r.count + length (script_steps rest)
+  enough = ap length r.steps_are ∙ length-append (first_steps r.count script) (script_steps rest) ∙ ap (λ (n : ℕ). n + length (script_steps rest)) r.counted
+
+  -- the steps with the next one
+  module _ (c : FileCmd) (later : List FileCmd) (is : script_steps rest ≡ c ∷ later) where
+    steps_next : script_steps script ≡ (first_steps r.count script ++ c ∷ []) ++ later
+    steps_next = r.steps_are ∙ ap (λ (l : List FileCmd). first_steps r.count script ++ l) is ∙ sym (append_assoc (first_steps r.count script) (c ∷ []) later)
+
+    length_next : length (first_steps r.count script ++ c ∷ []) ≡ r.count + 1
+    length_next = length-append (first_steps r.count script) (c ∷ []) ∙ ap (λ (n : ℕ). n + 1) r.counted
+
+    first_next : first_steps (r.count + 1) script ≡ first_steps r.count script ++ c ∷ []
+    first_next = ap (λ (l : List FileCmd). take (r.count + 1) l) steps_next ∙ take_at (first_steps r.count script ++ c ∷ []) later (r.count + 1) length_next
+
+    files_next : (file_command now.files c).1 ≡ files_after first.files (first_steps (r.count + 1) script)
+    files_next =
+        ap (λ (f : Files). (file_command f c).1) r.files ∙ sym (files_after-push first.files (first_steps r.count script) c)
+        ∙ ap (λ (l : List FileCmd). files_after first.files l) (sym first_next)
+
+    list_next : so_far ++ writes now.files c ≡ bodies ++ written first.files (first_steps (r.count + 1) script)
+    list_next =
+        append_assoc bodies (written first.files (first_steps r.count script)) (writes now.files c)
+        ∙ ap (λ (f : Files). bodies ++ (written first.files (first_steps r.count script) ++ writes f c)) r.files
+        ∙ ap (λ (l : List (List ℕ)). bodies ++ l) (sym (written-push first.files (first_steps r.count script) c))
+        ∙ ap (λ (l : List FileCmd). bodies ++ written first.files l) (sym first_next)
+
+  -- a crash when so many steps are done
+  after_steps : (count : ℕ) (said : List ℕ) (p : Pair) → count ≤ length (script_steps script)
+      → Stands (bodies ++ written first.files (first_steps count script)) (files_after first.files (first_steps count script)) (p.areas areas.Files)
+      → extended said o.told ≡ Some p.told → IsFront said (script_text count first.files script) → (0 < count → IsFront (script_text (count - 1) first.files script) said)
+      → IsAfterSteps script bodies first.files o.told p
+  after_steps count said p some stands told ahead behind = record {
+    count = count;
+    some = some;
+    list = stands_list _ _ _ stands;
+    recovers = stands_files _ _ _ stands;
+    said = said;
+    told = told;
+    not_ahead = ahead;
+    not_behind = behind;
+  }
+
+  -- ---- one more line
+
+  -- so far, at a moment at which nothing more is told
+  still : (p : Pair) → Stands so_far now.files (p.areas areas.Files) → m.told ≡ Some p.told → IsAfterSteps script bodies first.files o.told p
+  still p stands told =
+      after_steps r.count r.said p (omega (arith, enough))
+      (subst (λ (f : Files). Stands (bodies ++ written first.files (first_steps r.count script)) f (p.areas areas.Files)) r.files stands)
+      (sym r.told ∙ told)
+      (text number 0 now.files (lines rest), ap (λ (k : ℕ). script_text k first.files script) (omega arith) ∙ r.texts 0)
+      r.behind
+
+  -- what is told of a line, so far as it is told
+  said_more : (told : List ℕ) (p : Pair) (front : TellsFront told m.told p.told) → extended (r.said ++ take front.0 told) o.told ≡ Some p.told
+  said_more told p front =
+      sym (extended-append r.said (take front.0 told) o.told) ∙ ap (λ (x : Option (List ℕ)). extended (take front.0 told) x) (sym r.told ∙ front.2)
+      ∙ ap (λ (l : List ℕ). Some l) (sym front.3)
+
+  front_of : (n : ℕ) (told more whole : List ℕ) → whole ≡ r.said ++ (told ++ more) → IsFront (r.said ++ take n told) whole
+  front_of n told more whole is = (drop n told ++ more,
+      is ∙ ap (λ (l : List ℕ). r.said ++ (l ++ more)) (sym (take-append-drop n told))
+      ∙ ap (λ (l : List ℕ). r.said ++ l) (append_assoc (take n told) (drop n told) more)
+      ∙ sym (append_assoc r.said (take n told) (drop n told ++ more)))
+
+  -- a line without a step
+  module _ (told : List ℕ) (next : List ℕ) (same : script_steps rest ≡ script_steps next)
+      (texts : (k : ℕ) → text number k now.files (lines rest) ≡ told ++ text (number + 1) k now.files (lines next)) where
+    pub reached_without : (later : Catalog) (n : Outside) → later.files ≡ now.files → Holds later (so_far ++ []) n → n.told ≡ extended told m.told
+        → Reached script bodies first o later next (number + 1) n
+    reached_without later n files held told_is = record {
+      count = r.count;
+      said = r.said ++ told;
+      steps_are = r.steps_are ∙ ap (λ (l : List FileCmd). first_steps r.count script ++ l) same;
+      counted = r.counted;
+      files = files ∙ r.files;
+      holds = subst (λ (l : List (List ℕ)). Holds later l n) (append-nil so_far) held;
+      told = told_is ∙ ap (λ (x : Option (List ℕ)). extended told x) r.told ∙ extended-append r.said told o.told;
+      texts = λ k. r.texts k ∙ ap (λ (l : List ℕ). r.said ++ l) (texts k) ∙ sym (append_assoc r.said told (text (number + 1) k now.files (lines next)))
+          ∙ ap (λ (f : Files). (r.said ++ told) ++ text (number + 1) k f (lines next)) (sym files);
+      behind = λ some. front_more _ _ told (r.behind some);
+    }
+
+    pub during_without : (p : Pair) → IsInStep so_far [] now.files now.files m p ⊎ IsTelling (so_far ++ []) now.files told m p → IsAfterSteps script bodies first.files o.told p
+    during_without p moment = ⊎_elim
+        (λ (s : IsInStep so_far [] now.files now.files m p). still p
+            (⊎_elim (λ old. old) (λ new. subst (λ (l : List (List ℕ)). Stands l now.files (p.areas areas.Files)) (append-nil so_far) new) s.area) s.told)
+        (λ (t : IsTelling (so_far ++ []) now.files told m p).
+            after_steps r.count (r.said ++ take t.told.0 told) p (omega (arith, enough))
+            (subst (λ (f : Files). Stands (bodies ++ written first.files (first_steps r.count script)) f (p.areas areas.Files)) r.files
+                (subst (λ (l : List (List ℕ)). Stands l now.files (p.areas areas.Files)) (append-nil so_far) t.area))
+            (said_more told p t.told)
+            (front_of t.told.0 told (text (number + 1) 0 now.files (lines next)) (script_text r.count first.files script)
+                (ap (λ (k : ℕ). script_text k first.files script) (omega arith) ∙ r.texts 0 ∙ ap (λ (l : List ℕ). r.said ++ l) (texts 0)))
+            (λ some. front_more _ _ (take t.told.0 told) (r.behind some)))
+        moment
+
+  -- a line with a step
+  module _ (c : FileCmd) (told : List ℕ) (next : List ℕ) (is : script_steps rest ≡ c ∷ script_steps next)
+      (nothing : text number 0 now.files (lines rest) ≡ [])
+      (texts : (k : ℕ) → text number (suc k) now.files (lines rest) ≡ told ++ text (number + 1) k (file_command now.files c).1 (lines next)) where
+    text_now : script_text r.count first.files script ≡ r.said
+    text_now = ap (λ (k : ℕ). script_text k first.files script) (omega arith) ∙ r.texts 0 ∙ ap (λ (l : List ℕ). r.said ++ l) nothing ∙ append-nil r.said
+
+    text_next : (k : ℕ) → script_text (r.count + 1 + k) first.files script ≡ r.said ++ (told ++ text (number + 1) k (file_command now.files c).1 (lines next))
+    text_next k = ap (λ (j : ℕ). script_text j first.files script) (omega arith) ∙ r.texts (suc k) ∙ ap (λ (l : List ℕ). r.said ++ l) (texts k)
+
+    pub reached_with : (later : Catalog) (n : Outside) → later.files ≡ (file_command now.files c).1 → Holds later (so_far ++ writes now.files c) n → n.told ≡ extended told m.told
+        → Reached script bodies first o later next (number + 1) n
+    reached_with later n files held told_is = record {
+      count = r.count + 1;
+      said = r.said ++ told;
+      steps_are = steps_next c (script_steps next) is ∙ ap (λ (l : List FileCmd). l ++ script_steps next) (sym (first_next c (script_steps next) is));
+      counted = ap length (first_next c (script_steps next) is) ∙ length_next c (script_steps next) is;
+      files = files ∙ files_next c (script_steps next) is;
+      holds = subst (λ (l : List (List ℕ)). Holds later l n) (list_next c (script_steps next) is) held;
+      told = told_is ∙ ap (λ (x : Option (List ℕ)). extended told x) r.told ∙ extended-append r.said told o.told;
+      texts = λ k. text_next k ∙ sym (append_assoc r.said told (text (number + 1) k (file_command now.files c).1 (lines next)))
+          ∙ ap (λ (f : Files). (r.said ++ told) ++ text (number + 1) k f (lines next)) (sym files);
+      behind = λ some. (told, ap (λ (l : List ℕ). l ++ told) (sym text_now ∙ ap (λ (k : ℕ). script_text k first.files script) (omega arith)));
+    }
+
+    pub during_with : (p : Pair) → IsInStep so_far (writes now.files c) now.files (file_command now.files c).1 m p ⊎ IsTelling (so_far ++ writes now.files c) (file_command now.files c).1 told m p
+        → IsAfterSteps script bodies first.files o.told p
+    during_with p moment = ⊎_elim
+        (λ (s : IsInStep so_far (writes now.files c) now.files (file_command now.files c).1 m p). ⊎_elim
+            (λ old. still p old s.told)
+            (λ new. stepped r.said p new (sym r.told ∙ s.told)
+                (told ++ text (number + 1) 0 (file_command now.files c).1 (lines next), ap (λ (k : ℕ). script_text k first.files script) (omega arith) ∙ text_next 0)
+                ([], sym (append-nil _) ∙ refl))
+            s.area)
+        (λ (t : IsTelling (so_far ++ writes now.files c) (file_command now.files c).1 told m p).
+            stepped (r.said ++ take t.told.0 told) p t.area (said_more told p t.told)
+            (front_of t.told.0 told (text (number + 1) 0 (file_command now.files c).1 (lines next)) (script_text (r.count + 1) first.files script)
+                (ap (λ (k : ℕ). script_text k first.files script) (omega arith) ∙ text_next 0))
+            (take t.told.0 told, refl))
+        moment
+      where
+        stepped : (said : List ℕ) (p : Pair) → Stands (so_far ++ writes now.files c) (file_command now.files c).1 (p.areas areas.Files)
+            → extended said o.told ≡ Some p.told → IsFront said (script_text (r.count + 1) first.files script) → IsFront r.said said
+            → IsAfterSteps script bodies first.files o.told p
+        stepped said p stands told_is ahead behind =
+            after_steps (r.count + 1) said p (omega (arith, enough, ap length is))
+            (subst (λ (f : Files). Stands (bodies ++ written first.files (first_steps (r.count + 1) script)) f (p.areas areas.Files)) (files_next c (script_steps next) is)
+                (subst (λ (l : List (List ℕ)). Stands l (file_command now.files c).1 (p.areas areas.Files)) (list_next c (script_steps next) is) stands))
+            told_is ahead
+            (λ some. (behind.0, behind.1 ∙ ap (λ (l : List ℕ). l ++ behind.0) (sym text_now ∙ ap (λ (k : ℕ). script_text k first.files script) (omega arith))))

@@ -1,0 +1,115 @@
+-- A turn of the loop over lines, and its end.
+use Rattle.std.proofs.Common.{◌≡◌, ◌⊎◌, inl, inr, ℕ, suc, zero, ◌+◌, ◌-◌, ◌<◌, ◌≤◌, min, ◌^◌, List, [], ◌∷◌, ◌++◌, length, take, refl, sym, ap, subst, ◌∙◌, arith, length-append, Option, Some, None, Ok, slice_get, get_or, add-one}
+use Rattle.std.proofs.lemmas.List.{append-nil, take_all}
+use Rattle.std.proofs.lemmas.Option.{slice_get-get_or}
+use Rattle.std.proofs.Math.Seq.{get_or-append_seam}
+use Rattle.std.specs.List.{cons_option}
+use Rattle.std.specs.Str.Lines.{lines}
+use Rattle.dl_base.proofs.Moments.{moments_more, moments_then}
+use Rattle.dl_base.specs.Outside.{Outside, Pair, Moments, extended}
+use Rattle.dl_base.specs.declared.area.Area.TheVariants as areas
+use Rattle.dl_base.specs.declared.fault.Full.{Full}
+use Rattle.dl_base.specs.declared.fault.Full.TheVariants as fulls
+use Rattle.dl_base.specs.declared.file.FileCmd.{FileCmd}
+use Rattle.dl_journal.specs.Records.{size}
+use Rattle.fs_files.specs.Store.{Catalog, Holds, record_of}
+use Rattle.meaning_areas.specs.FilesArea.{written}
+use Rattle.meaning_files.specs.Commands.{refusal}
+use Rattle.meaning_files.specs.Files.{Files}
+use Rattle.meaning_script.specs.Lines.{command_of}
+use Rattle.meaning_script.specs.Steps.{steps, files_after, line_files, line_answer, told_answer, text, text_after}
+use Rattle.datalinks.specs.Lines.{line_writes, line_told, IsInLine, IsInStep, IsTelling, IsAfterLine, IsFullLine, IsFullStep}
+use Rattle.datalinks.specs.Run.{script_steps, first_steps, script_text, whole_text, IsAfterSteps, IsFullAt, AreDone, length_with}
+use Rattle.datalinks.proofs.Running.{Reached, so_far, reached_without, reached_with, during_without, during_with}
+
+-- what stands behind a front
+slice_get_seam : (xs : List FileCmd) (c : FileCmd) (ys : List FileCmd) (n : ℕ) → length xs ≡ n → slice_get (xs ++ c ∷ ys) n ≡ Some c
+slice_get_seam xs c ys n is =
+    slice_get-get_or (xs ++ c ∷ ys) n c (omega (arith, is, length-append xs (c ∷ ys)))
+    ∙ ap (λ (k : ℕ). Some (get_or (xs ++ c ∷ ys) k c)) (sym is) ∙ ap (λ (x : FileCmd). Some x) (get_or-append_seam xs c ys c)
+
+module _ (script : List ℕ) (bodies : List (List ℕ)) (first : Catalog) (o : Outside) (now : Catalog) (rest : List ℕ) (number : ℕ) (m : Outside)
+    (r : Reached script bodies first o now rest number m) (line next : List ℕ) (is : lines rest ≡ line ∷ lines next) where
+  list : List (List ℕ)
+  list = so_far script bodies first o now rest number m r
+
+  -- the text of the rest begins with that of the line
+  texts : (cmd : Option FileCmd) → command_of line ≡ cmd → (k : ℕ)
+      → text number k now.files (lines rest) ≡ text_after (told_answer number (line_answer now.files line cmd)) (λ j. text (number + 1) j (line_files now.files cmd) (lines next)) k cmd
+  texts cmd at k =
+      ap (λ (ls : List (List ℕ)). text number k now.files ls) is
+      ∙ ap (λ (x : Option FileCmd). text_after (told_answer number (line_answer now.files line x)) (λ j. text (suc number) j (line_files now.files x) (lines next)) k x) at
+      ∙ ap (λ (n : ℕ). text_after (told_answer number (line_answer now.files line cmd)) (λ j. text n j (line_files now.files cmd) (lines next)) k cmd) (sym (add-one number))
+
+  -- the steps of the rest begin with that of the line
+  steps_of : (cmd : Option FileCmd) → command_of line ≡ cmd → script_steps rest ≡ cons_option cmd (script_steps next)
+  steps_of cmd at = ap (λ (ls : List (List ℕ)). steps ls) is ∙ ap (λ (x : Option FileCmd). cons_option x (script_steps next)) at
+
+  -- one line more
+  pub reached_next : (later : Catalog) (n : Outside) → IsAfterLine number line (so_far script bodies first o now rest number m r) now later m n
+      → Reached script bodies first o later next (number + 1) n
+  reached_next later n after = by (command_of line) refl
+    where
+      held : (cmd : Option FileCmd) → command_of line ≡ cmd → Holds later (so_far script bodies first o now rest number m r ++ line_writes now.files cmd) n
+      held cmd at = subst (λ (x : Option FileCmd). Holds later (so_far script bodies first o now rest number m r ++ line_writes now.files x) n) at after.holds
+
+      told : (cmd : Option FileCmd) → command_of line ≡ cmd → n.told ≡ extended (told_answer number (line_answer now.files line cmd)) m.told
+      told cmd at = after.told ∙ ap (λ (x : Option FileCmd). extended (told_answer number (line_answer now.files line x)) m.told) at
+
+      by : (cmd : Option FileCmd) → command_of line ≡ cmd → Reached script bodies first o later next (number + 1) n
+      by None at =
+          reached_without script bodies first o now rest number m r (told_answer number (line_answer now.files line None)) next (steps_of None at) (texts None at)
+          later n (after.files ∙ ap (λ (x : Option FileCmd). line_files now.files x) at) (held None at) (told None at)
+      by (Some c) at =
+          reached_with script bodies first o now rest number m r c (told_answer number (line_answer now.files line (Some c))) next (steps_of (Some c) at)
+          (texts (Some c) at 0) (λ k. texts (Some c) at (suc k))
+          later n (after.files ∙ ap (λ (x : Option FileCmd). line_files now.files x) at) (held (Some c) at) (told (Some c) at)
+
+  -- a moment of the line, by its command
+  abbrev around : Option FileCmd → Pair → Type 0
+  around x p =
+      IsInStep (so_far script bodies first o now rest number m r) (line_writes now.files x) now.files (line_files now.files x) m p
+      ⊎ IsTelling (so_far script bodies first o now rest number m r ++ line_writes now.files x) (line_files now.files x) (told_answer number (line_answer now.files line x)) m p
+
+  -- each moment of the line is one after some steps
+  pub moments_next : (n : Outside) → Moments (IsInLine number line (so_far script bodies first o now rest number m r) now.files m) m n → Moments (IsAfterSteps script bodies first.files o.told) m n
+  moments_next n moments = moments_more _ (IsAfterSteps script bodies first.files o.told) m n wider moments
+    where
+      by : (cmd : Option FileCmd) → command_of line ≡ cmd → (p : Pair) → around cmd p → IsAfterSteps script bodies first.files o.told p
+      by None at p moment =
+          during_without script bodies first o now rest number m r (told_answer number (line_answer now.files line None)) next (steps_of None at) (texts None at) p moment
+      by (Some c) at p moment =
+          during_with script bodies first o now rest number m r c (told_answer number (line_answer now.files line (Some c))) next (steps_of (Some c) at)
+          (texts (Some c) at 0) (λ k. texts (Some c) at (suc k)) p moment
+
+      wider : (p : Pair) → IsInLine number line (so_far script bodies first o now rest number m r) now.files m p → IsAfterSteps script bodies first.files o.told p
+      wider p moment = by (command_of line) refl p moment
+
+  -- a line whose record would pass the limit
+  pub full_next : (full : Full) → IsFullLine now line full → IsFullAt script bodies first.files now.limit full
+  full_next full f =
+      let next_step : script_steps script ≡ first_steps r.count script ++ f.cmd ∷ script_steps next =
+          r.steps_are ∙ ap (λ (l : List FileCmd). first_steps r.count script ++ l) (steps_of (Some f.cmd) f.is) in
+      let long : now.length + 9 + length (record_of f.cmd) ≡ length_with (so_far script bodies first o now rest number m r) (record_of f.cmd) = omega (arith, r.holds.keeps.length) in
+      record {
+        count = r.count;
+        cmd = f.cmd;
+        next = ap (λ (l : List FileCmd). slice_get l r.count) next_step ∙ slice_get_seam (first_steps r.count script) f.cmd (script_steps next) r.count r.counted;
+        accepted = ap (λ (files : Files). refusal files f.cmd) (sym r.files) ∙ f.step.accepted;
+        passes = subst (λ (n : ℕ). now.limit < n) long f.step.passes;
+        full_is = f.step.full_is ∙ ap (λ (n : ℕ). fulls.Area areas.Files (min n (2 ^ 64 - 1))) long;
+      }
+
+-- behind the last line
+pub reached_all : (script : List ℕ) (bodies : List (List ℕ)) (first : Catalog) (o : Outside) (now : Catalog) (rest : List ℕ) (number : ℕ) (m : Outside)
+    → Reached script bodies first o now rest number m → rest ≡ [] → AreDone script bodies first now o m
+reached_all script bodies first o now rest number m r none =
+    let all : first_steps r.count script ≡ script_steps script =
+        sym (append-nil (first_steps r.count script)) ∙ ap (λ (l : List ℕ). first_steps r.count script ++ script_steps l) (sym none) ∙ sym r.steps_are in
+    let text_is : script_text r.count first.files script ≡ r.said =
+        ap (λ (k : ℕ). script_text k first.files script) (omega arith) ∙ r.texts 0 ∙ ap (λ (l : List ℕ). r.said ++ text number 0 now.files (lines l)) none ∙ append-nil r.said in
+    record {
+      told = r.told ∙ ap (λ (l : List ℕ). extended l o.told) (sym text_is) ∙ ap (λ (k : ℕ). extended (script_text k first.files script) o.told) (sym r.counted ∙ ap length all);
+      holds = subst (λ (l : List FileCmd). Holds now (bodies ++ written first.files l) m) all r.holds;
+      files = r.files ∙ ap (λ (l : List FileCmd). files_after first.files l) all;
+    }

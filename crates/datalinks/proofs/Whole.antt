@@ -1,0 +1,65 @@
+-- From an opening and the lines to a whole run.
+use Rattle.std.proofs.Common.{◌≡◌, ◌⊎◌, inl, inr, ⊎_elim, ℕ, List, [], ◌++◌, refl, sym, ap, subst, ◌∙◌, Option, Some, None, Result, Ok, Err, IsOk}
+use Rattle.dl_base.proofs.Moments.{moments_none, moments_more, moments_then, moments_touch, since_begin}
+use Rattle.dl_base.specs.Outside.{Outside, Pair, Now, During, Moments, Touches, IsLawful, extended}
+use Rattle.dl_base.specs.declared.area.Area.TheVariants as areas
+use Rattle.dl_journal.proofs.Records.{records-at_rest}
+use Rattle.dl_journal.specs.Open.{IsList, IsOpening}
+use Rattle.dl_journal.specs.Records.{records}
+use Rattle.fs_files.specs.Store.{Catalog, Holds}
+use Rattle.meaning_areas.specs.FilesArea.{files_in, files_of, files_of_list, written}
+use Rattle.meaning_files.specs.Files.{Files}
+use Rattle.meaning_script.specs.Steps.{files_after}
+use Rattle.datalinks.specs.Run.{script_steps, whole_text, IsEntry, AllStand, IsOfOpening, IsInRun, IsAfterSteps, IsWholeRun, AreDone}
+
+module _ (o : Outside) (bodies : List (List ℕ)) (files : Files) (entry : IsEntry o bodies files) where
+  -- what was opened is what the area reads
+  module _ (found : List (List ℕ)) (list : IsList found (o.reads areas.Files)) (store : Catalog) (m : Outside) (held : Holds store found m) where
+    pub found_is : found ≡ bodies
+    found_is = let a = list entry.bytes entry.reads in let b = entry.list in cc
+
+    pub store_is : store.files ≡ files
+    store_is = let a = held.stands in let b = entry.stands in let same = ap (λ (l : List (List ℕ)). files_of l) found_is in cc
+
+    pub holds_entry : Holds store bodies m
+    holds_entry = subst (λ (l : List (List ℕ)). Holds store l m) found_is held
+
+  module _ (all : AllStand o) where
+    opening_stands : (c : List ℕ) → IsOpening areas.Files o c → IsOk (files_in c)
+    opening_stands c opening = ⊎_elim
+        (λ image. all c image)
+        (λ (same : (told : List ℕ) × (o.reads areas.Files ≡ Some told) × (records c ≡ records told)).
+            let is_read : same.0 ≡ entry.bytes = (let a = same.1 in let b = entry.reads in cc) in
+            let whole : files_in c ≡ Ok files = ap files_of_list (same.2 ∙ ap records is_read ∙ entry.list) ∙ entry.stands in
+            subst (λ (r : Result Files ℕ). IsOk r) (sym whole) refl)
+        opening
+
+    -- at the begin
+    pub run_at_entry : (script : List ℕ) (p : Pair) → Now o p → IsInRun script bodies files o p
+    run_at_entry script p now = inl (record { told = now.told; image = inl (now.areas areas.Files); stands = all _ (now.areas areas.Files) })
+
+    -- while the area is opened
+    pub run_opening : (script : List ℕ) (m : Outside) → Touches areas.Files (IsOpening areas.Files o) o m → Moments (IsInRun script bodies files o) o m
+    run_opening script m t = moments_touch areas.Files (IsOpening areas.Files o) (IsInRun script bodies files o) o m
+        (λ p (d : During areas.Files (IsOpening areas.Files o) o p). inl (record { told = d.told; image = d.here; stands = opening_stands _ d.here })) t
+
+    -- and then the lines
+    pub run_then : (script : List ℕ) (store : Catalog) (m n : Outside) → Touches areas.Files (IsOpening areas.Files o) o m → store.files ≡ files
+        → Moments (IsAfterSteps script bodies store.files m.told) m n → Moments (IsInRun script bodies files o) o n
+    run_then script store m n t same lines = moments_then (IsInRun script bodies files o) o m n (run_opening script m t)
+        (moments_more (IsAfterSteps script bodies store.files m.told) (IsInRun script bodies files o) m n
+            (λ p after. inr (subst (λ (f : Files). IsAfterSteps script bodies f o.told p) same (subst (λ (told : Option (List ℕ)). IsAfterSteps script bodies store.files told p) t.told after))) lines)
+
+    -- every moment since the begin
+    pub run_since : (script : List ℕ) (n : Outside) → IsLawful o → Moments (IsInRun script bodies files o) o n → (p : Pair) → n.since o.moment p → IsInRun script bodies files o p
+    run_since script n law moments p left = since_begin (IsInRun script bodies files o) o n law moments (run_at_entry script) p left
+
+  -- a run that is whole
+  pub whole_run : (script : List ℕ) (store last : Catalog) (m n : Outside) → IsLawful n → m.told ≡ o.told → store.files ≡ files → AreDone script bodies store last m n → IsWholeRun script bodies files o n
+  whole_run script store last m n law told same done = record {
+    told = done.told ∙ ap (λ (f : Files). extended (whole_text f script) m.told) same ∙ ap (λ (x : Option (List ℕ)). extended (whole_text files script) x) told;
+    list = λ bytes reads. records-at_rest _ bytes (done.holds.keeps.images bytes (law.as_it_reads areas.Files bytes reads))
+        ∙ ap (λ (f : Files). Ok (bodies ++ written f (script_steps script))) same;
+    stands = λ bytes reads. ap files_of_list (records-at_rest _ bytes (done.holds.keeps.images bytes (law.as_it_reads areas.Files bytes reads)))
+        ∙ done.holds.stands ∙ ap (λ (f : Files). Ok f) (done.files ∙ ap (λ (f : Files). files_after f (script_steps script)) same);
+  }

@@ -1,0 +1,19 @@
+use Rattle.std.proofs.Common.{◌≡◌, ℕ, ◌+◌, ◌≤◌, List, length}
+use Rattle.dl_base.specs.Outside.{Moments}
+use Rattle.fs_files.specs.Store.{Holds, IsReady}
+use Rattle.datalinks.specs.Run.{IsAfterSteps}
+use Rattle.datalinks.proofs.Running.{Reached}
+use Rattle.datalinks.proofs.run.run_lines.Given as goal
+
+abbrev pub invariant-loop-rest : goal.invariant-loop-rest
+invariant-loop-rest g l = record {
+  ready : IsReady l.store (g.B.Bench.outside l.bench);
+  limit : l.store.limit ≡ l.initial.store.limit;
+  numbered : l.number + length l.rest ≤ length l.script + 1;
+  faults : (g.B.Bench.outside l.initial.bench).faults ≤ (g.B.Bench.outside l.bench).faults;
+  reached : (bodies : List (List ℕ)) → Holds l.initial.store bodies (g.B.Bench.outside l.initial.bench) → Reached l.script bodies l.initial.store (g.B.Bench.outside l.initial.bench) l.store l.rest l.number (g.B.Bench.outside l.bench);
+  moments : (bodies : List (List ℕ)) → Holds l.initial.store bodies (g.B.Bench.outside l.initial.bench) → Moments (IsAfterSteps l.script bodies l.initial.store.files (g.B.Bench.outside l.initial.bench).told) (g.B.Bench.outside l.initial.bench) (g.B.Bench.outside l.bench);
+}
+
+abbrev pub decreases-loop-rest : goal.decreases-loop-rest
+decreases-loop-rest g l = length l.rest

@@ -1,0 +1,151 @@
+// One line: its step, and what is told of it.
+ghost use Rattle.std.specs.Prelude.{◌≡◌, ◌≢◌, ◌≤◌, ℕ, List, ◌++◌, Some, None, Err, IfOk, OnOk};
+ghost use Rattle.std.specs.FinMap as map;
+ghost use Rattle.dl_base.specs.Outside.{Moments, Says, Rose, extended};
+ghost use Rattle.dl_base.specs.declared.fault.Full.{Full};
+ghost use Rattle.fs_files.specs.Store.{Holds, IsReady};
+ghost use Rattle.meaning_areas.specs.FilesArea.{writes};
+ghost use Rattle.meaning_files.specs.Commands.{refusal, read_answer, answer_of, changed, file_command};
+ghost use Rattle.meaning_script.specs.Lines.{command_of, IsBuilt};
+ghost use Rattle.meaning_script.specs.Printed.{line_text};
+ghost use Rattle.meaning_script.specs.Steps.{line_answer, line_files};
+ghost use Rattle.datalinks.specs.Lines.{line_writes, IsInStep, IsInLine, IsAfterLine, IsFullStep, IsFullLine};
+
+use dl_base::{Answer, Bench, FileCmd, FileWhat, Memory, Path, Refusal, StepFault};
+use fs_files::Files;
+use run_print::line_text;
+use run_script::{command_of, is_quiet};
+use std::alloc::Global;
+
+/// Does a line, and tells its answer.
+pub fn do_line<B: Bench>(
+    alloc: Global,
+    bench: &mut B,
+    store: &mut Files,
+    number: u64,
+    line: &[u8],
+) -> Result<(), StepFault>
+    requires { IsReady store.old (B.outside bench.old) }
+    ensures ready { OnOk result (IsReady store.new (B.outside bench.new)) }
+    ensures images { (bodies : List (List ℕ)) → Holds store.old bodies (B.outside bench.old) → Moments (IsInLine number line.now bodies store.old.files (B.outside bench.old)) (B.outside bench.old) (B.outside bench.new) }
+    ensures done { OnOk result ((bodies : List (List ℕ)) → Holds store.old bodies (B.outside bench.old) → IsAfterLine number line.now bodies store.old store.new (B.outside bench.old) (B.outside bench.new)) }
+    ensures limit { store.new.limit ≡ store.old.limit }
+    ensures full { (full : Full) → result ≡ Err (StepFault.Full full) → IsFullLine store.old line.now full }
+    ensures faults { (B.outside bench.old).faults ≤ (B.outside bench.new).faults }
+    ensures device { result ≡ Err StepFault.Device → Rose (B.outside bench.old) (B.outside bench.new) }
+{
+    match answer_line(alloc, bench, store, line)? {
+        Some(answer) => tell(alloc, bench, number, &answer),
+        None => Ok(()),
+    }
+}
+
+// Tells the answer of a line.
+fn tell<B: Bench>(
+    alloc: Global,
+    bench: &mut B,
+    number: u64,
+    answer: &Answer,
+) -> Result<(), StepFault>
+    ensures says { Says (line_text number answer.now) (B.outside bench.old) (B.outside bench.new) }
+    ensures told { OnOk result ((B.outside bench.new).told ≡ extended (line_text number answer.now) (B.outside bench.old).told) }
+    ensures not_full { (full : Full) → result ≢ Err (StepFault.Full full) }
+    ensures faults { (B.outside bench.old).faults ≤ (B.outside bench.new).faults }
+    ensures device { result ≡ Err StepFault.Device → Rose (B.outside bench.old) (B.outside bench.new) }
+{
+    let text = line_text(alloc, number, answer)?;
+    bench.say(text.bytes())?;
+    Ok(())
+}
+
+// Does a line's step, if it has one, and gives its answer, if it is answered.
+// Here alone it is said which lines are not built.
+fn answer_line<B: Bench>(
+    alloc: Global,
+    bench: &mut B,
+    store: &mut Files,
+    line: &[u8],
+) -> Result<Option<Answer>, StepFault>
+    requires { IsReady store.old (B.outside bench.old) }
+    ensures answer { IfOk result (λ answer. answer ≡ line_answer store.old.files line.now (command_of line.now)) }
+    ensures files { OnOk result (store.new.files ≡ line_files store.old.files (command_of line.now)) }
+    ensures kept { OnOk result ((bodies : List (List ℕ)) → Holds store.old bodies (B.outside bench.old) → Holds store.new (bodies ++ line_writes store.old.files (command_of line.now)) (B.outside bench.new)) }
+    ensures ready { OnOk result (IsReady store.new (B.outside bench.new)) }
+    ensures images { (bodies : List (List ℕ)) → Holds store.old bodies (B.outside bench.old)
+        → Moments (IsInStep bodies (line_writes store.old.files (command_of line.now)) store.old.files (line_files store.old.files (command_of line.now)) (B.outside bench.old)) (B.outside bench.old) (B.outside bench.new) }
+    ensures told { (B.outside bench.new).told ≡ (B.outside bench.old).told }
+    ensures limit { store.new.limit ≡ store.old.limit }
+    ensures full { (full : Full) → result ≡ Err (StepFault.Full full) → IsFullLine store.old line.now full }
+    ensures faults { (B.outside bench.old).faults ≤ (B.outside bench.new).faults }
+    ensures device { result ≡ Err StepFault.Device → Rose (B.outside bench.old) (B.outside bench.new) }
+{
+    match command_of(alloc, line)? {
+        Some(cmd) => Ok(Some(step(bench, store, cmd)?)),
+        None => {
+            if is_quiet(line) {
+                Ok(None)
+            } else {
+                Ok(Some(Answer::Refused(Refusal::NotBuilt)))
+            }
+        }
+    }
+}
+
+// Does a command, and gives its answer.
+fn step<B: Bench>(bench: &mut B, store: &mut Files, cmd: FileCmd) -> Result<Answer, StepFault>
+    requires ready { IsReady store.old (B.outside bench.old) }
+    requires built { IsBuilt cmd.what }
+    ensures answer { IfOk result (λ answer. answer ≡ (file_command store.old.files cmd).0) }
+    ensures files { OnOk result (store.new.files ≡ (file_command store.old.files cmd).1) }
+    ensures kept { OnOk result ((bodies : List (List ℕ)) → Holds store.old bodies (B.outside bench.old) → Holds store.new (bodies ++ writes store.old.files cmd) (B.outside bench.new)) }
+    ensures ready { OnOk result (IsReady store.new (B.outside bench.new)) }
+    ensures images { (bodies : List (List ℕ)) → Holds store.old bodies (B.outside bench.old)
+        → Moments (IsInStep bodies (writes store.old.files cmd) store.old.files (file_command store.old.files cmd).1 (B.outside bench.old)) (B.outside bench.old) (B.outside bench.new) }
+    ensures told { (B.outside bench.new).told ≡ (B.outside bench.old).told }
+    ensures limit { store.new.limit ≡ store.old.limit }
+    ensures full { (full : Full) → result ≡ Err (StepFault.Full full) → IsFullStep store.old cmd full }
+    ensures faults { (B.outside bench.old).faults ≤ (B.outside bench.new).faults }
+    ensures device { result ≡ Err StepFault.Device → Rose (B.outside bench.old) (B.outside bench.new) }
+{
+    match store.test(&cmd)? {
+        Some(why) => Ok(Answer::Refused(Refusal::File(why))),
+        None => accepted(bench, store, cmd),
+    }
+}
+
+// Does a command that is not refused.
+fn accepted<B: Bench>(bench: &mut B, store: &mut Files, cmd: FileCmd) -> Result<Answer, StepFault>
+    requires ready { IsReady store.old (B.outside bench.old) }
+    requires built { IsBuilt cmd.what }
+    requires accepted { refusal store.old.files cmd ≡ None }
+    ensures answer { IfOk result (λ answer. answer ≡ answer_of store.old.files cmd.what) }
+    ensures files { OnOk result (store.new.files ≡ changed store.old.files cmd) }
+    ensures kept { OnOk result ((bodies : List (List ℕ)) → Holds store.old bodies (B.outside bench.old) → Holds store.new (bodies ++ writes store.old.files cmd) (B.outside bench.new)) }
+    ensures ready { OnOk result (IsReady store.new (B.outside bench.new)) }
+    ensures images { (bodies : List (List ℕ)) → Holds store.old bodies (B.outside bench.old)
+        → Moments (IsInStep bodies (writes store.old.files cmd) store.old.files (changed store.old.files cmd) (B.outside bench.old)) (B.outside bench.old) (B.outside bench.new) }
+    ensures told { (B.outside bench.new).told ≡ (B.outside bench.old).told }
+    ensures limit { store.new.limit ≡ store.old.limit }
+    ensures full { (full : Full) → result ≡ Err (StepFault.Full full) → IsFullStep store.old cmd full }
+    ensures faults { (B.outside bench.old).faults ≤ (B.outside bench.new).faults }
+    ensures device { result ≡ Err StepFault.Device → Rose (B.outside bench.old) (B.outside bench.new) }
+{
+    let FileCmd { user, what } = cmd;
+    match what {
+        FileWhat::Read(path, _) => Ok(content(store, &path)?),
+        what => {
+            store.apply(bench, FileCmd { user, what })?;
+            Ok(Answer::Done)
+        }
+    }
+}
+
+// The bytes of a file.
+fn content(store: &Files, path: &Path) -> Result<Answer, Memory>
+    ensures { IfOk result (λ answer. answer ≡ read_answer (map.get store.now.files path.now)) }
+{
+    match store.look(path) {
+        Some(file) => Ok(Answer::Bytes(file.bytes.copy()?)),
+        None => Ok(Answer::Done),
+    }
+}

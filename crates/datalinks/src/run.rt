@@ -1,0 +1,40 @@
+// The lines of a script, one after another.
+ghost use Rattle.std.specs.Prelude.{◌≡◌, ◌≤◌, ℕ, List, Err, OnOk};
+ghost use Rattle.dl_base.specs.Outside.{Moments, Rose};
+ghost use Rattle.dl_base.specs.declared.fault.Full.{Full};
+ghost use Rattle.fs_files.specs.Store.{Holds, IsReady};
+ghost use Rattle.datalinks.specs.Run.{IsAfterSteps, IsFullAt, AreDone};
+
+use crate::line::do_line;
+use dl_base::{Bench, StepFault};
+use fs_files::Files;
+use run_script::first_line;
+use std::alloc::Global;
+
+/// Does the lines of a script in order, and tells each answer.
+pub fn run_lines<B: Bench>(
+    alloc: Global,
+    bench: &mut B,
+    store: &mut Files,
+    script: &[u8],
+) -> Result<(), StepFault>
+    requires { IsReady store.old (B.outside bench.old) }
+    ensures images { (bodies : List (List ℕ)) → Holds store.old bodies (B.outside bench.old) → Moments (IsAfterSteps script.now bodies store.old.files (B.outside bench.old).told) (B.outside bench.old) (B.outside bench.new) }
+    ensures done { OnOk result ((bodies : List (List ℕ)) → Holds store.old bodies (B.outside bench.old) → AreDone script.now bodies store.old store.new (B.outside bench.old) (B.outside bench.new)) }
+    ensures full { (full : Full) → result ≡ Err (StepFault.Full full) → (bodies : List (List ℕ)) → Holds store.old bodies (B.outside bench.old) → IsFullAt script.now bodies store.old.files store.old.limit full }
+    ensures faults { (B.outside bench.old).faults ≤ (B.outside bench.new).faults }
+    ensures device { result ≡ Err StepFault.Device → Rose (B.outside bench.old) (B.outside bench.new) }
+{
+    let mut rest = script;
+    let mut number: u64 = 1;
+    while !rest.is_empty() {
+        let (line, behind) = first_line(rest);
+        match do_line(alloc, bench, store, number, line) {
+            Ok(()) => {}
+            Err(fault) => return Err(fault),
+        }
+        rest = behind;
+        number += 1;
+    }
+    Ok(())
+}
