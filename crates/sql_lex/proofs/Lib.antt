@@ -1,0 +1,12 @@
+pub mod Tests
+pub mod Runs
+pub mod Words
+pub mod Found
+pub mod Literals
+pub mod Signs
+pub mod Fronts
+pub mod Scans
+pub mod Loops
+pub mod Steps
+pub mod Lexed
+pub mod Joins
