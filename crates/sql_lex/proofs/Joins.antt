@@ -1,11 +1,12 @@
 -- What is joined is lexed as what was joined.
-use Rattle.std.proofs.Common.{◌≡◌, ℕ, zero, suc, ◌+◌, Bool, true, false, ◌&&◌, ◌||◌, cond, ◌==◌, List, [], ◌∷◌, ◌++◌, length, map, refl, sym, ap, ◌∙◌, subst, arith}
+use Rattle.std.proofs.Common.{◌≡◌, ℕ, zero, suc, ◌+◌, Bool, true, false, ◌&&◌, ◌||◌, cond, ◌==◌, List, [], ◌∷◌, ◌++◌, length, map, Some, refl, sym, ap, ◌∙◌, subst, arith}
 use Rattle.std.proofs.lemmas.List.{append-nil}
-use Rattle.std.specs.List.{list_all}
+use Rattle.std.proofs.lemmas.Bool.{eqb-true}
+use Rattle.std.specs.List.{list_all, slice_get}
 use Rattle.sql_lex.specs.declared.lexeme.LexKind.{LexKind}
 use Rattle.sql_lex.specs.declared.lexeme.LexKind.TheVariants.{Word, Number, Literal, Sign}
 use Rattle.sql_lex.specs.declared.lexeme.Lexeme.{Lexeme}
-use Rattle.sql_lex.specs.Spelling.{is_blank, begins, Spells, goes_on, IsFront}
+use Rattle.sql_lex.specs.Spelling.{is_blank, signs, begins, Spells, goes_on, IsFront}
 use Rattle.sql_lex.specs.Lexes.{Lexes}
 use Rattle.sql_lex.specs.Joined.{Piece, is_dot, joined, is_word, ArePieces, LexesAs}
 use Rattle.sql_lex.proofs.Scans.{blank_lexes}
@@ -21,18 +22,31 @@ stops_at_blank (Number z) = refl
 stops_at_blank (Literal t) = refl
 stops_at_blank (Sign k) = rw (and_false (k == 11) false refl, and_false (k == 13) false refl) refl
 
+is_third : (k : ℕ) → (k == 3) ≡ true → k ≡ 3
+is_third k e = eqb-true k 3 e
+
 -- a dot makes no word longer, and nothing makes a dot longer
 stops_at_dot : (x y : Piece) (rest : List ℕ) → is_dot y.0 ≡ true → is_word x.0 ≡ true → Spells y.0 y.1 → begins (goes_on x.0) (y.1 ++ rest) ≡ false
-stops_at_dot (Word w, bs) (Sign (suc (suc (suc zero))), body) rest d w-is s = rw s refl
-stops_at_dot (Word w, bs) (_, body) rest d w-is s = absurd cc
+stops_at_dot (Word w, bs) (Sign k, body) rest d w-is s =
+    let dot : Some (46 ∷ []) ≡ Some body = subst (λ k. slice_get signs k ≡ Some body) (is_third k d) s in
+    let same : body ≡ 46 ∷ [] = cc in
+    rw same refl
+stops_at_dot (Word w, bs) (Word v, body) rest d w-is s = absurd cc
+stops_at_dot (Word w, bs) (Number z, body) rest d w-is s = absurd cc
+stops_at_dot (Word w, bs) (Literal t, body) rest d w-is s = absurd cc
 stops_at_dot (Number z, bs) y rest d w-is s = absurd cc
 stops_at_dot (Literal t, bs) y rest d w-is s = absurd cc
 stops_at_dot (Sign k, bs) y rest d w-is s = absurd cc
 
-dot_stops : (k : LexKind) (rest : List ℕ) → is_dot k ≡ true → begins (goes_on k) rest ≡ false
-dot_stops (Sign (suc (suc (suc zero)))) [] d = refl
-dot_stops (Sign (suc (suc (suc zero)))) (b ∷ rest) d = refl
-dot_stops _ rest d = absurd cc
+third_stops : (rest : List ℕ) → begins (goes_on (Sign 3)) rest ≡ false
+third_stops [] = refl
+third_stops (b ∷ rest) = refl
+
+dot_stops : (kind : LexKind) (rest : List ℕ) → is_dot kind ≡ true → begins (goes_on kind) rest ≡ false
+dot_stops (Sign k) rest d = subst (λ k. begins (goes_on (Sign k)) rest ≡ false) (sym (is_third k d)) (third_stops rest)
+dot_stops (Word w) rest d = absurd cc
+dot_stops (Number z) rest d = absurd cc
+dot_stops (Literal t) rest d = absurd cc
 
 -- a piece and what follows it
 piece_before : (x : Piece) (at : ℕ) (rest : List ℕ) (ks : List LexKind) → Spells x.0 x.1 → begins (goes_on x.0) rest ≡ false → LexesAs (at + length x.1) rest ks → LexesAs at (x.1 ++ rest) (x.0 ∷ ks)

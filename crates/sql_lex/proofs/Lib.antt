@@ -1,6 +1,7 @@
 pub mod Tests
 pub mod Runs
 pub mod Words
+pub mod Numbers
 pub mod Found
 pub mod Literals
 pub mod Signs
@@ -10,3 +11,4 @@ pub mod Loops
 pub mod Steps
 pub mod Lexed
 pub mod Joins
+pub mod Written

@@ -1,12 +1,12 @@
 -- Reading from left to right: what is read is meant, and what is meant is read.
 use Rattle.std.proofs.Common.{◌≡◌, ℕ, zero, suc, ◌+◌, ◌-◌, ◌≤◌, Bool, true, false, ◌||◌, ◌==◌, cond, List, [], ◌∷◌, ◌++◌, length, drop, Some, None, Result, Ok, Err, refl, sym, ap, ◌∙◌, subst, arith, append_assoc, length-append}
-use Rattle.std.specs.List.{list_all}
+use Rattle.std.specs.List.{list_all, slice_get}
 use Rattle.std.proofs.lemmas.Bool.{eqb-true}
 use Rattle.std.proofs.lemmas.List.{drop_at, append-nil}
 use Rattle.sql_lex.specs.declared.lexeme.LexKind.{LexKind}
 use Rattle.sql_lex.specs.declared.lexeme.LexKind.TheVariants.{Word, Number, Literal, Sign}
 use Rattle.sql_lex.specs.declared.lexeme.Lexeme.{Lexeme}
-use Rattle.sql_lex.specs.Spelling.{is_blank, begins, Spells, SignAt, signs, IsFront}
+use Rattle.sql_lex.specs.Spelling.{is_blank, begins, Spells, signs, IsFront}
 use Rattle.sql_lex.specs.Scan.{Front, front, with_lexeme, place_front, scan}
 use Rattle.sql_lex.specs.Lexes.{LexesTo, Blanks, Lexes, NoFront, BadByte, IsBad}
 use Rattle.sql_lex.proofs.Tests.{cond_true, cond_false, and_left, and_right}
@@ -21,14 +21,14 @@ scan_skip (suc k) at [] = refl
 scan_skip (suc k) at (b ∷ bs) = scan_skip k (suc at) bs ∙ ap (λ n. scan 0 n (drop k bs)) (let e : suc at + k ≡ at + suc k = omega arith in e)
 
 -- a lexeme has a first byte
-no_sign : (ss : List (List ℕ)) (k : ℕ) → SignAt ss k [] → list_all (λ s. begins (λ _. true) s) ss ≡ true → ⊥
-no_sign [] k at h = at
-no_sign (s ∷ ss) zero at h = let e = and_left (begins (λ _. true) s) _ h in let f : begins (λ _. true) [] ≡ true = ap (begins (λ _. true)) at ∙ e in cc
+no_sign : (ss : List (List ℕ)) (k : ℕ) → slice_get ss k ≡ Some [] → list_all (begins (λ _. true)) ss ≡ true → ⊥
+no_sign [] k at h = cc
+no_sign (s ∷ ss) zero at h = let e : s ≡ [] = cc in let f : begins (λ _. true) [] ≡ true = ap (begins (λ _. true)) (sym e) ∙ and_left (begins (λ _. true) s) _ h in cc
 no_sign (s ∷ ss) (suc k) at h = no_sign ss k at (and_right (begins (λ _. true) s) _ h)
 
 pub no_empty : (kind : LexKind) → Spells kind [] → ⊥
 no_empty (Word w) s = let e = (name_is [] s.0).1 in cc
-no_empty (Number z) s = let e = s.0 in cc
+no_empty (Number z) s = let e = s.0.0 in omega arith
 no_empty (Literal t) s = let e = s.1 in cc
 no_empty (Sign k) s = no_sign signs k s refl
 
@@ -150,6 +150,12 @@ pub one_behind : (xs : List Lexeme) (x : Lexeme) (r : Result (List Lexeme) ℕ) 
 one_behind xs x (Ok ys) = ap (λ (zs : List Lexeme). Ok zs) (append_assoc xs (x ∷ []) ys)
 one_behind xs x (Err k) = refl
 
+abbrev lexemes : List Lexeme → Result (List Lexeme) ℕ
+lexemes xs = Ok xs
+
+abbrev bad_at : ℕ → Result (List Lexeme) ℕ
+bad_at k = Err k
+
 scan_to : (Last : ℕ → List ℕ → Type 0) (r : Result (List Lexeme) ℕ) → ((at : ℕ) (bs : List ℕ) → Last at bs → scan 0 at bs ≡ r) → (xs : List Lexeme) (at : ℕ) (bs : List ℕ) → LexesTo Last at bs xs → scan 0 at bs ≡ behind xs r
 scan_to Last r last [] at bs h = last at bs h ∙ none_behind r
 scan_to Last r last (x ∷ xs) at bs (gap, body, rest, parts, blank, is, begin, end, more) =
@@ -180,3 +186,14 @@ bad_scan bad at bs (gap, b, rest, parts, blank, other, place, none) =
 
 pub scan_bad : (bs : List ℕ) (bad : ℕ) → IsBad bs bad → scan 0 1 bs ≡ Err bad
 scan_bad bs bad (xs, h) = scan_to (BadByte bad) (Err bad) (bad_scan bad) xs 1 bs h
+
+-- ---- a text has one answer
+
+pub one_reading : (bs : List ℕ) (xs ys : List Lexeme) → Lexes 1 bs xs → Lexes 1 bs ys → xs ≡ ys
+one_reading bs xs ys l m = let e : lexemes xs ≡ lexemes ys = sym (scan_lexed xs bs l) ∙ scan_lexed ys bs m in cc
+
+pub one_place : (bs : List ℕ) (j k : ℕ) → IsBad bs j → IsBad bs k → j ≡ k
+one_place bs j k b c = let e : bad_at j ≡ bad_at k = sym (scan_bad bs j b) ∙ scan_bad bs k c in cc
+
+pub never_both : (bs : List ℕ) (xs : List Lexeme) (k : ℕ) → Lexes 1 bs xs → IsBad bs k → ⊥
+never_both bs xs k l b = let e : lexemes xs ≡ bad_at k = sym (scan_lexed xs bs l) ∙ scan_bad bs k b in cc

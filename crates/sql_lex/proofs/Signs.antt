@@ -1,19 +1,20 @@
 -- Signs: what is found is spelled so, and what is spelled so is found.
 use Rattle.std.proofs.Common.{◌≡◌, ℕ, zero, suc, Bool, true, false, ◌||◌, cond, ◌==◌, List, [], ◌∷◌, ◌++◌, length, Some, None, refl, sym, subst}
+use Rattle.std.specs.Prelude.{slice_get}
 use Rattle.std.proofs.lemmas.Bool.{eqb-true}
 use Rattle.sql_lex.specs.declared.lexeme.LexKind.TheVariants.{Sign}
-use Rattle.sql_lex.specs.Spelling.{signs, SignAt, begins, goes_on}
+use Rattle.sql_lex.specs.Spelling.{signs, begins, goes_on}
 use Rattle.sql_lex.specs.Scan.{Front, sign_front, front}
 use Rattle.sql_lex.proofs.Found.{Found, found_if}
 
 -- a sign of one byte, which no byte makes longer
-single : (b c k : ℕ) (bs : List ℕ) → (b == c) ≡ true → SignAt signs k (c ∷ []) → begins (goes_on (Sign k)) bs ≡ false → Found (b ∷ bs) (Some (Sign k, 1))
-single b c k bs e at ends = (b ∷ [], bs, refl, refl, (subst (λ x. SignAt signs k (x ∷ [])) (sym (eqb-true b c e)) at, ends))
+single : (b c k : ℕ) (bs : List ℕ) → (b == c) ≡ true → slice_get signs k ≡ Some (c ∷ []) → begins (goes_on (Sign k)) bs ≡ false → Found (b ∷ bs) (Some (Sign k, 1))
+single b c k bs e at ends = (b ∷ [], bs, refl, refl, (subst (λ x. slice_get signs k ≡ Some (x ∷ [])) (sym (eqb-true b c e)) at, ends))
 
 -- a sign of two bytes
-double : (b c d k : ℕ) (bs : List ℕ) → (b == c) ≡ true → begins (λ x. x == d) bs ≡ true → SignAt signs k (c ∷ d ∷ []) → ((x : ℕ) → goes_on (Sign k) x ≡ false) → Found (b ∷ bs) (Some (Sign k, 2))
+double : (b c d k : ℕ) (bs : List ℕ) → (b == c) ≡ true → begins (λ x. x == d) bs ≡ true → slice_get signs k ≡ Some (c ∷ d ∷ []) → ((x : ℕ) → goes_on (Sign k) x ≡ false) → Found (b ∷ bs) (Some (Sign k, 2))
 double b c d k [] e f at none = absurd cc
-double b c d k (x ∷ bs) e f at none = (b ∷ x ∷ [], bs, refl, refl, (subst (λ y. SignAt signs k (y ∷ x ∷ [])) (sym (eqb-true b c e)) (subst (λ y. SignAt signs k (c ∷ y ∷ [])) (sym (eqb-true x d f)) at), never (goes_on (Sign k)) bs none))
+double b c d k (x ∷ bs) e f at none = (b ∷ x ∷ [], bs, refl, refl, (subst (λ y. slice_get signs k ≡ Some (y ∷ x ∷ [])) (sym (eqb-true b c e)) (subst (λ y. slice_get signs k ≡ Some (c ∷ y ∷ [])) (sym (eqb-true x d f)) at), never (goes_on (Sign k)) bs none))
   where
     never : (p : ℕ → Bool) (bs : List ℕ) → ((x : ℕ) → p x ≡ false) → begins p bs ≡ false
     never p [] h = refl
@@ -48,8 +49,8 @@ sign_found b bs =
     (λ _. found_if (b ∷ bs) (b == 61) _ None (λ e. single b 61 9 bs e refl (never_begins bs _ (λ x. refl))) (λ _. tt))))))))))))
 
 -- a sign as it is written
-written : (s body rest : List ℕ) (k : ℕ) → body ≡ s → front (s ++ rest) ≡ Some (Sign k, length s) → front (body ++ rest) ≡ Some (Sign k, length body)
-written s body rest k e h = subst (λ (x : List ℕ). front (x ++ rest) ≡ Some (Sign k, length x)) (sym e) h
+written : (s body rest : List ℕ) (k : ℕ) → Some s ≡ Some body → front (s ++ rest) ≡ Some (Sign k, length s) → front (body ++ rest) ≡ Some (Sign k, length body)
+written s body rest k e h = let same : s ≡ body = cc in subst (λ (x : List ℕ). front (x ++ rest) ≡ Some (Sign k, length x)) same h
 
 -- `<` and `>` with what may follow them
 less_again : (rest : List ℕ) → begins (goes_on (Sign 11)) rest ≡ false → front (60 ∷ rest) ≡ Some (Sign 11, 1)
@@ -75,7 +76,7 @@ greater_again (x ∷ rest) e = by_test (x == 61) e
 pattern abbrev six+ : ℕ → ℕ
 six+ n = suc (suc (suc (suc (suc (suc n)))))
 
-pub sign_again : (k : ℕ) (body rest : List ℕ) → SignAt signs k body → begins (goes_on (Sign k)) rest ≡ false → front (body ++ rest) ≡ Some (Sign k, length body)
+pub sign_again : (k : ℕ) (body rest : List ℕ) → slice_get signs k ≡ Some body → begins (goes_on (Sign k)) rest ≡ false → front (body ++ rest) ≡ Some (Sign k, length body)
 unfolding front
 sign_again zero body rest s e = written _ body rest 0 s refl
 sign_again (suc zero) body rest s e = written _ body rest 1 s refl
@@ -92,4 +93,4 @@ sign_again (six+ (suc (suc (suc (suc (suc zero)))))) body rest s e = written _ b
 sign_again (six+ (six+ zero)) body rest s e = written _ body rest 12 s refl
 sign_again (six+ (six+ (suc zero))) body rest s e = written _ body rest 13 s (greater_again rest e)
 sign_again (six+ (six+ (suc (suc zero)))) body rest s e = written _ body rest 14 s refl
-sign_again (six+ (six+ (suc (suc (suc k))))) body rest s e = absurd s
+sign_again (six+ (six+ (suc (suc (suc k))))) body rest s e = absurd cc

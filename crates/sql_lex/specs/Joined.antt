@@ -1,22 +1,35 @@
 -- Lexemes written one behind another, with one blank between them, and none round a dot.
-use Rattle.std.specs.Prelude.{◌≡◌, ℕ, zero, suc, Bool, true, false, ◌||◌, if◌then◌else◌, List, [], ◌∷◌, ◌++◌, map}
+use Rattle.std.specs.Prelude.{◌≡◌, ℕ, Bool, true, false, ◌||◌, ◌==◌, if◌then◌else◌, List, [], ◌∷◌, ◌++◌, map, get_or}
+use Rattle.std.specs.Fmt.{signed_decimal}
 use Rattle.sql_lex.specs.declared.lexeme.LexKind.{LexKind}
-use Rattle.sql_lex.specs.declared.lexeme.LexKind.TheVariants.{Word, Sign}
+use Rattle.sql_lex.specs.declared.lexeme.LexKind.TheVariants.{Word, Number, Literal, Sign}
 use Rattle.sql_lex.specs.declared.lexeme.Lexeme.{Lexeme}
-use Rattle.sql_lex.specs.Spelling.{Spells}
+use Rattle.sql_lex.specs.Spelling.{quoted, signs, Spells}
 use Rattle.sql_lex.specs.Lexes.{Lexes}
 
--- a lexeme and how it is written
+-- some bytes spell the lexeme
+abbrev pub IsSpelled : LexKind → Type 0
+IsSpelled kind = (body : List ℕ) × Spells kind body
+
+-- how a lexeme is written
+abbrev pub written : LexKind → List ℕ
+written (Word w) = w
+written (Number z) = signed_decimal z
+written (Literal t) = quoted t
+written (Sign k) = get_or signs k []
+
+-- a lexeme, and the bytes that are written of it
 abbrev pub Piece : Type 0
 Piece = LexKind × List ℕ
-
-abbrev pub is_dot : LexKind → Bool
-is_dot (Sign (suc (suc (suc zero)))) = true
-is_dot _ = false
 
 abbrev pub is_word : LexKind → Bool
 is_word (Word w) = true
 is_word _ = false
+
+-- the sign `.`
+abbrev pub is_dot : LexKind → Bool
+is_dot (Sign k) = k == 3
+is_dot _ = false
 
 abbrev pub joined : List Piece → List ℕ
 joined [] = []

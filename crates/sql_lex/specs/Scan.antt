@@ -1,12 +1,12 @@
 -- How lexemes are read: the one at the front, and all of them from left to right.
-use Rattle.std.specs.Prelude.{◌≡◌, ℕ, zero, suc, ◌+◌, ◌-◌, ◌^◌, ◌≤◌, ◌<◌, Bool, true, false, ◌==◌, nat_le, nat_lt, if◌then◌else◌, List, [], ◌∷◌, ◌++◌, length, take, drop, map, Option, Some, None, Result, Ok, Err, pos}
+use Rattle.std.specs.Prelude.{◌≡◌, ℕ, zero, suc, ◌+◌, ◌-◌, ◌*◌, ◌^◌, ◌≤◌, ◌<◌, Bool, true, false, ◌==◌, nat_le, nat_lt, if◌then◌else◌, List, [], ◌∷◌, ◌++◌, length, take, drop, map, Option, Some, None, Result, Ok, Err, pos}
 use Rattle.std.specs.List.{prefix_len, list_all}
 use Rattle.std.specs.Char.{is_ascii_digit, is_ascii_alphabetic, to_ascii_lowercase}
 use Rattle.dl_base.specs.Name.{is_name_byte}
 use Rattle.sql_lex.specs.declared.lexeme.LexKind.{LexKind}
 use Rattle.sql_lex.specs.declared.lexeme.LexKind.TheVariants.{Word, Number, Literal, Sign}
 use Rattle.sql_lex.specs.declared.lexeme.Lexeme.{Lexeme}
-use Rattle.sql_lex.specs.Spelling.{is_blank, is_literal_byte, decimal_from, begins}
+use Rattle.sql_lex.specs.Spelling.{is_blank, is_literal_byte, begins}
 
 -- a lexeme and its length
 abbrev pub Front : Type 0
@@ -14,6 +14,11 @@ Front = Option (LexKind × ℕ)
 
 abbrev pub word_front : List ℕ → Front
 word_front bs = let n = prefix_len is_name_byte bs in if nat_le n 64 then Some (Word (map to_ascii_lowercase (take n bs)), n) else None
+
+-- the number that decimal digits say, behind digits of value v
+abbrev pub decimal_from : ℕ → List ℕ → ℕ
+decimal_from v [] = v
+decimal_from v (d ∷ ds) = decimal_from (10 * v + (d - 48)) ds
 
 abbrev pub decimal_below : List ℕ → Option ℕ
 decimal_below ds = if nat_lt (decimal_from 0 ds) (2 ^ 63) then Some (decimal_from 0 ds) else None

@@ -1,7 +1,8 @@
 -- What spells a lexeme.
-use Rattle.std.specs.Prelude.{◌≡◌, ℕ, zero, suc, ◌+◌, ◌-◌, ◌*◌, ◌^◌, ◌<◌, Bool, true, false, not, ◌&&◌, ◌||◌, ◌==◌, nat_le, if◌then◌else◌, List, [], ◌∷◌, ◌++◌, map, pos}
+use Rattle.std.specs.Prelude.{◌≡◌, ℕ, ◌^◌, ◌<◌, Bool, true, false, not, ◌&&◌, ◌||◌, ◌==◌, nat_le, if◌then◌else◌, List, [], ◌∷◌, ◌++◌, map, slice_get, Some, pos}
 use Rattle.std.specs.List.{list_all}
 use Rattle.std.specs.Char.{is_ascii_digit, to_ascii_lowercase}
+use Rattle.std.specs.Str.Parse.{IsNumeral, digits_value}
 use Rattle.dl_base.specs.Name.{IsName, is_name_byte}
 use Rattle.sql_lex.specs.declared.lexeme.LexKind.{LexKind}
 use Rattle.sql_lex.specs.declared.lexeme.LexKind.TheVariants.{Word, Number, Literal, Sign}
@@ -13,11 +14,6 @@ is_blank b = b == 32 || b == 9
 -- what stands in a literal
 abbrev pub is_literal_byte : ℕ → Bool
 is_literal_byte b = nat_le 32 b && not (b == 127)
-
--- the number that decimal digits say, behind digits of value v
-abbrev pub decimal_from : ℕ → List ℕ → ℕ
-decimal_from v [] = v
-decimal_from v (d ∷ ds) = decimal_from (10 * v + (d - 48)) ds
 
 -- each quote twice
 abbrev pub doubled : List ℕ → List ℕ
@@ -32,12 +28,6 @@ quoted text = 39 ∷ (doubled text ++ 39 ∷ [])
 abbrev pub signs : List (List ℕ)
 signs = (40 ∷ []) ∷ (41 ∷ []) ∷ (44 ∷ []) ∷ (46 ∷ []) ∷ (59 ∷ []) ∷ (42 ∷ []) ∷ (43 ∷ []) ∷ (45 ∷ []) ∷ (47 ∷ []) ∷ (61 ∷ []) ∷ (60 ∷ 62 ∷ []) ∷ (60 ∷ []) ∷ (60 ∷ 61 ∷ []) ∷ (62 ∷ []) ∷ (62 ∷ 61 ∷ []) ∷ []
 
--- the bytes of the sign at a place in a list
-abbrev pub SignAt : List (List ℕ) → ℕ → List ℕ → Type 0
-SignAt [] k body = ⊥
-SignAt (s ∷ ss) zero body = body ≡ s
-SignAt (s ∷ ss) (suc k) body = SignAt ss k body
-
 -- begins with a byte that passes
 abbrev pub begins : (ℕ → Bool) → List ℕ → Bool
 begins p [] = false
@@ -46,9 +36,9 @@ begins p (b ∷ bs) = p b
 -- The bytes spell the lexeme. A word is a name in any case, a number is below 2 to the 63rd.
 abbrev pub Spells : LexKind → List ℕ → Type 0
 Spells (Word w) body = IsName body × (w ≡ map to_ascii_lowercase body)
-Spells (Number z) body = (begins is_ascii_digit body ≡ true) × (list_all is_ascii_digit body ≡ true) × (decimal_from 0 body < 2 ^ 63) × (z ≡ pos (decimal_from 0 body))
+Spells (Number z) body = IsNumeral 10 body × (digits_value 10 body < 2 ^ 63) × (z ≡ pos (digits_value 10 body))
 Spells (Literal t) body = (list_all is_literal_byte t ≡ true) × (body ≡ quoted t)
-Spells (Sign k) body = SignAt signs k body
+Spells (Sign k) body = slice_get signs k ≡ Some body
 
 -- a byte that would make the lexeme longer
 abbrev pub goes_on : LexKind → ℕ → Bool
