@@ -10,7 +10,7 @@ use Rattle.sql_lex.specs.declared.lexeme.LexKind.{LexKind}
 use Rattle.sql_lex.specs.declared.lexeme.LexKind.TheVariants.{Word, Number, Literal, Sign}
 use Rattle.sql_lex.specs.Spelling.{begins, Spells, IsFront}
 use Rattle.sql_lex.specs.Scan.{Front, decimal_from, word_front, number_front, literal_text, literal_front, front}
-use Rattle.sql_lex.proofs.Tests.{cond_true, cond_false, and_left}
+use Rattle.sql_lex.proofs.Bools.{cond_true, cond_false, and_left}
 use Rattle.sql_lex.proofs.Runs.{run_all, run_ends, run_is, run_len, run_some}
 use Rattle.sql_lex.proofs.Numbers.{is_number, number_is}
 use Rattle.sql_lex.proofs.Words.{name_is, run_is_name}

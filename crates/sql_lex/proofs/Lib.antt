@@ -1,4 +1,4 @@
-pub mod Tests
+pub mod Bools
 pub mod Runs
 pub mod Words
 pub mod Numbers

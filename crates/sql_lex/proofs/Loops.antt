@@ -6,7 +6,7 @@ use Rattle.std.proofs.lemmas.Bool.{lt-leb, leb-true, eqb-true}
 use Rattle.std.proofs.lemmas.Bool.Decides.{nat_tests}
 use Rattle.std.proofs.lemmas.List.{at_drop_more, at_drop_all, append-nil}
 use Rattle.sql_lex.specs.Spelling.{is_literal_byte}
-use Rattle.sql_lex.proofs.Tests.{and_left, and_right}
+use Rattle.sql_lex.proofs.Bools.{and_left, and_right}
 use Rattle.sql_lex.specs.Scan.{decimal_from, decimal_below, literal_text, with_byte, one_longer}
 
 decimal_grows : (ds : List ℕ) (v : ℕ) → v ≤ decimal_from v ds

@@ -5,7 +5,7 @@ use Rattle.std.specs.Char.{is_ascii_digit}
 use Rattle.std.proofs.lemmas.List.{length-take}
 use Rattle.std.proofs.lemmas.List.Sums.{prefix_len-le-length}
 use Rattle.sql_lex.specs.Spelling.{begins}
-use Rattle.sql_lex.proofs.Tests.{and_left, and_right}
+use Rattle.sql_lex.proofs.Bools.{and_left, and_right}
 
 module _ (p : ℕ → Bool) where
   pub run_all : (bs : List ℕ) → list_all p (take (prefix_len p bs) bs) ≡ true

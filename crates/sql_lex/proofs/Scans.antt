@@ -9,7 +9,7 @@ use Rattle.sql_lex.specs.declared.lexeme.Lexeme.{Lexeme}
 use Rattle.sql_lex.specs.Spelling.{is_blank, begins, Spells, signs, IsFront}
 use Rattle.sql_lex.specs.Scan.{Front, front, with_lexeme, place_front, scan}
 use Rattle.sql_lex.specs.Lexes.{LexesTo, Blanks, Lexes, NoFront, BadByte, IsBad}
-use Rattle.sql_lex.proofs.Tests.{cond_true, cond_false, and_left, and_right}
+use Rattle.sql_lex.proofs.Bools.{cond_true, cond_false, and_left, and_right}
 use Rattle.sql_lex.proofs.Words.{name_is}
 use Rattle.sql_lex.proofs.Found.{Found}
 use Rattle.sql_lex.proofs.Fronts.{front_found, front_again}

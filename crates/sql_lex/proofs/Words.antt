@@ -7,7 +7,7 @@ use Rattle.std.proofs.lemmas.List.{length-map}
 use Rattle.std.proofs.lemmas.Bool.Decides.{nat_tests}
 use Rattle.dl_base.specs.Name.{IsName, name_test, is_name_byte, is_letter}
 use Rattle.sql_lex.specs.Spelling.{begins}
-use Rattle.sql_lex.proofs.Tests.{and_left, and_right}
+use Rattle.sql_lex.proofs.Bools.{and_left, and_right}
 use Rattle.sql_lex.proofs.Runs.{run_all, run_len, begins_run}
 
 letter_first : (bs : List ℕ) → is_letter (slice_get bs 0) ≡ begins is_ascii_alphabetic bs

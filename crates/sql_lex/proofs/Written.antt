@@ -17,7 +17,7 @@ use Rattle.sql_lex.specs.declared.lexeme.Lexeme.{Lexeme}
 use Rattle.sql_lex.specs.Spelling.{begins, signs, Spells}
 use Rattle.sql_lex.specs.Lexes.{Lexes}
 use Rattle.sql_lex.specs.Joined.{IsSpelled, written}
-use Rattle.sql_lex.proofs.Tests.{and_left, and_right}
+use Rattle.sql_lex.proofs.Bools.{and_left, and_right}
 use Rattle.sql_lex.proofs.Words.{is_name, name_is, folded_name}
 
 -- ---- words
