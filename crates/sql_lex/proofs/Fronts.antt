@@ -1,5 +1,5 @@
 -- The lexeme at the front: what is found is spelled so, and what is spelled so is found.
-use Rattle.std.proofs.Common.{◌≡◌, ℕ, suc, ◌^◌, ◌≤◌, ◌<◌, Bool, true, false, cond, leb, ltb, ◌==◌, List, [], ◌∷◌, ◌++◌, length, take, drop, map, Some, None, refl, sym, ap, ◌∙◌, subst, arith, pos}
+use Rattle.std.proofs.Common.{◌≡◌, ℕ, suc, ◌^◌, ◌<◌, true, false, cond, leb, ltb, ◌==◌, List, [], ◌∷◌, ◌++◌, length, take, drop, map, Some, None, refl, sym, ap, ◌∙◌, subst, arith, pos}
 use Rattle.std.specs.List.{prefix_len, list_all}
 use Rattle.std.specs.Char.{is_ascii_digit, is_ascii_alphabetic, to_ascii_lowercase}
 use Rattle.std.proofs.lemmas.Bool.{leb-true, le-leb}
@@ -9,7 +9,7 @@ use Rattle.dl_base.specs.Name.{is_name_byte}
 use Rattle.sql_lex.specs.declared.lexeme.LexKind.{LexKind}
 use Rattle.sql_lex.specs.declared.lexeme.LexKind.TheVariants.{Word, Number, Literal, Sign}
 use Rattle.sql_lex.specs.Spelling.{begins, Spells, IsFront}
-use Rattle.sql_lex.specs.Scan.{Front, decimal_from, word_front, number_front, literal_text, literal_front, front}
+use Rattle.sql_lex.specs.Scan.{decimal_from, word_front, number_front, literal_text, literal_front, front}
 use Rattle.sql_lex.proofs.Bools.{cond_true, cond_false, and_left}
 use Rattle.sql_lex.proofs.Runs.{run_all, run_ends, run_is, run_len, run_some}
 use Rattle.sql_lex.proofs.Numbers.{is_number, number_is}
@@ -39,7 +39,7 @@ front_found (b ∷ bs) =
     (λ _. found_if (b ∷ bs) (b == 39) _ _ (λ e. subst (λ x. Found (x ∷ bs) (literal_front (literal_text false bs))) (sym (is_quote b e)) (literal_found bs (literal_text false bs) (literal_quoted false bs)))
     (λ _. sign_found b bs)))
 
-digit_no_letter : (b : ℕ) → is_ascii_digit b ≡ true → is_ascii_alphabetic b ≡ false
+pub digit_no_letter : (b : ℕ) → is_ascii_digit b ≡ true → is_ascii_alphabetic b ≡ false
 digit_no_letter b e = grind (arith, nat_tests)
 
 word_again : (b : ℕ) (body rest w : List ℕ) → Spells (Word w) (b ∷ body) → begins is_name_byte rest ≡ false → front ((b ∷ body) ++ rest) ≡ Some (Word w, length (b ∷ body))

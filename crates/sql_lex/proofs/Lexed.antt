@@ -1,5 +1,5 @@
 -- What a result says by the laws of reading.
-use Rattle.std.proofs.Common.{◌≡◌, ℕ, ◌<◌, ◌≤◌, List, [], ◌∷◌, ◌++◌, length, Option, Some, None, Result, Ok, Err, subst, sym, ap, arith, length-append}
+use Rattle.std.proofs.Common.{◌≡◌, ℕ, ◌<◌, ◌≤◌, List, [], ◌∷◌, length, Option, Some, None, Result, Ok, Err, subst, sym, ap, arith, length-append}
 use Rattle.std.specs.Prelude.{IfOk, IfSome}
 use Rattle.sql_lex.specs.declared.lexeme.LexKind.{LexKind}
 use Rattle.sql_lex.specs.declared.lexeme.Lexeme.{Lexeme}
@@ -26,7 +26,7 @@ is_only bs r g xs l = subst (Gives r) (scan_lexed xs bs l) g
 pub is_bad_only : (bs : List ℕ) (r : Result (List Lexeme) LexFault) → Gives r (scan 0 1 bs) → (k : ℕ) → IsBad bs k → Gives r (Err k)
 is_bad_only bs r g k b = subst (Gives r) (scan_bad bs k b) g
 
-len_within : (bs : List ℕ) (kind : LexKind) (len : ℕ) → Found bs (Some (kind, len)) → (0 < len) × (len ≤ length bs)
+pub len_within : (bs : List ℕ) (kind : LexKind) (len : ℕ) → Found bs (Some (kind, len)) → (0 < len) × (len ≤ length bs)
 len_within bs kind len ([], rest, parts, n, is) = absurd (no_empty kind is.0)
 len_within bs kind len (b ∷ body, rest, parts, n, is) = (omega (arith, n), omega (arith, n, ap length parts, length-append (b ∷ body) rest))
 

@@ -12,3 +12,4 @@ pub mod Steps
 pub mod Lexed
 pub mod Joins
 pub mod Written
+pub mod Lengths

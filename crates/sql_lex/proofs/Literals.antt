@@ -3,7 +3,7 @@ use Rattle.std.proofs.Common.{◌≡◌, ℕ, suc, Bool, true, false, cond, ◌=
 use Rattle.std.specs.List.{list_all}
 use Rattle.std.proofs.lemmas.Bool.{eqb-true}
 use Rattle.sql_lex.specs.declared.lexeme.LexKind.TheVariants.{Literal}
-use Rattle.sql_lex.specs.Spelling.{is_literal_byte, doubled, quoted, begins, Spells, goes_on, IsFront}
+use Rattle.sql_lex.specs.Spelling.{is_literal_byte, doubled, begins}
 use Rattle.sql_lex.specs.Scan.{with_byte, one_longer, literal_text, literal_front, front}
 use Rattle.sql_lex.proofs.Bools.{and_left, and_right}
 use Rattle.sql_lex.proofs.Found.{Found}

@@ -1,5 +1,5 @@
 -- Reading from left to right: what is read is meant, and what is meant is read.
-use Rattle.std.proofs.Common.{◌≡◌, ℕ, zero, suc, ◌+◌, ◌-◌, ◌≤◌, Bool, true, false, ◌||◌, ◌==◌, cond, List, [], ◌∷◌, ◌++◌, length, drop, Some, None, Result, Ok, Err, refl, sym, ap, ◌∙◌, subst, arith, append_assoc, length-append}
+use Rattle.std.proofs.Common.{◌≡◌, ℕ, zero, suc, ◌+◌, ◌-◌, ◌≤◌, Bool, true, false, ◌||◌, ◌==◌, cond, List, [], ◌∷◌, ◌++◌, length, drop, Some, None, Result, Ok, Err, ◌⊎◌, inl, inr, refl, sym, ap, ◌∙◌, subst, arith, append_assoc, length-append}
 use Rattle.std.specs.List.{list_all, slice_get}
 use Rattle.std.proofs.lemmas.Bool.{eqb-true}
 use Rattle.std.proofs.lemmas.List.{drop_at, append-nil}
@@ -197,3 +197,10 @@ one_place bs j k b c = let e : bad_at j ≡ bad_at k = sym (scan_bad bs j b) ∙
 
 pub never_both : (bs : List ℕ) (xs : List Lexeme) (k : ℕ) → Lexes 1 bs xs → IsBad bs k → ⊥
 never_both bs xs k l b = let e : lexemes xs ≡ bad_at k = sym (scan_lexed xs bs l) ∙ scan_bad bs k b in cc
+
+pub some_answer : (bs : List ℕ) → ((xs : List Lexeme) × Lexes 1 bs xs) ⊎ ((k : ℕ) × IsBad bs k)
+some_answer bs = by_answer (scan 0 1 bs) (scan_says bs)
+  where
+    by_answer : (r : Result (List Lexeme) ℕ) → Says 1 bs r → ((xs : List Lexeme) × Lexes 1 bs xs) ⊎ ((k : ℕ) × IsBad bs k)
+    by_answer (Ok xs) h = inl (xs, h)
+    by_answer (Err k) h = inr (k, h)

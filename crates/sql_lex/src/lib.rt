@@ -8,6 +8,6 @@ mod lexer;
 #[cfg(test)]
 mod tests;
 
-pub use laws::{joined_again, read_once, written_again};
+pub use laws::{joined_again, longest, one_answer, written_again};
 pub use lexeme::{LexFault, LexKind, Lexeme};
 pub use lexer::lex;

@@ -1,5 +1,5 @@
-use Rattle.sql_lex.proofs.Scans.{one_reading, one_place, never_both}
-use Rattle.sql_lex.proofs.laws.read_once.Goals as goal
+use Rattle.sql_lex.proofs.Scans.{some_answer, one_reading, one_place, never_both}
+use Rattle.sql_lex.proofs.laws.one_answer.Goals as goal
 
 pub returns-clause-lexemes : goal.returns-clause-lexemes
 returns-clause-lexemes c = one_reading
@@ -9,3 +9,6 @@ returns-clause-place c = one_place
 
 pub returns-clause-never_both : goal.returns-clause-never_both
 returns-clause-never_both c = never_both
+
+pub returns-clause-some : goal.returns-clause-some
+returns-clause-some c = some_answer
