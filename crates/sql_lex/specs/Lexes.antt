@@ -32,20 +32,14 @@ BadByte bad at bs = (gap : List ℕ) × (b : ℕ) × (rest : List ℕ) × (bs �
 abbrev pub IsBad : List ℕ → ℕ → Type 0
 IsBad bs bad = (xs : List Lexeme) × LexesTo (BadByte bad) 1 bs xs
 
-abbrev pub Fails : LexFault → Result (List Lexeme) ℕ → Type 0
-Fails (BadChar k) r = r ≡ Err k
-Fails Memory r = Unit {0}
-
 -- the answer is these lexemes or this place, unless memory ran out
 abbrev pub Gives : Result (List Lexeme) LexFault → Result (List Lexeme) ℕ → Type 0
 Gives (Ok list) r = r ≡ Ok list
-Gives (Err e) r = Fails e r
-
-abbrev pub BadCharAt : LexFault → (ℕ → Type 0) → Type 0
-BadCharAt (BadChar k) P = P k
-BadCharAt Memory P = Unit {0}
+Gives (Err (BadChar k)) r = r ≡ Err k
+Gives (Err Memory) r = Unit {0}
 
 -- where the answer is a bad byte, P holds of its place
 abbrev pub IfBadChar : Result (List Lexeme) LexFault → (ℕ → Type 0) → Type 0
 IfBadChar (Ok list) P = Unit {0}
-IfBadChar (Err e) P = BadCharAt e P
+IfBadChar (Err (BadChar k)) P = P k
+IfBadChar (Err Memory) P = Unit {0}
