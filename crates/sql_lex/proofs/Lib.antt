@@ -1,0 +1,15 @@
+pub mod Bools
+pub mod Runs
+pub mod Words
+pub mod Numbers
+pub mod Found
+pub mod Literals
+pub mod Signs
+pub mod Fronts
+pub mod Scans
+pub mod Loops
+pub mod Steps
+pub mod Lexed
+pub mod Joins
+pub mod Written
+pub mod Lengths

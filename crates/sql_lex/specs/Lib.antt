@@ -1,0 +1,4 @@
+pub mod Joined
+pub mod Lexes
+pub mod Scan
+pub mod Spelling
