@@ -37,7 +37,7 @@ pub fn read_token(alloc: Global, text: &[u8]) -> Result<Option<(Path, Token)>, M
 }
 
 // All up to the last slash, with it, and the last name.
-pub fn parted(text: &[u8]) -> (&[u8], &[u8])
+pub(crate) fn parted(text: &[u8]) -> (&[u8], &[u8])
     ensures folder { result.0.now ≡ meaning.folder text.now }
     ensures name { result.1.now ≡ meaning.last_name text.now }
 {
@@ -148,7 +148,7 @@ fn are_lower_hex(bytes: &[u8]) -> bool
 fn is_lower_hex(b: u8) -> bool
     ensures { result ≡ meaning.is_lower_hex b }
 {
-    b.is_ascii_digit() || (97 <= b && b <= 102)
+    matches!(b, b'0'..=b'9' | b'a'..=b'f')
 }
 
 // A semicolon, and at least one byte more.

@@ -24,6 +24,13 @@ pub fn token(key: &[u8; 32], path: &Path, link: LinkNo, expiry: u64) -> Token
     }
 }
 
+/// Up to when a token is good that is given out at a moment for a life, all in seconds. It takes no memory.
+pub fn expiry_after(now: u64, life: u64) -> u64
+    ensures { result ≡ meaning.expiry_after now life }
+{
+    now.saturating_add(life)
+}
+
 /// What a token is worth for reading the file of a path by a link, at a moment in seconds. It is good at its expiry still.
 /// It takes no memory.
 #[tactic(auto, unfolding(meaning_files::specs::Tokens::verdict))]

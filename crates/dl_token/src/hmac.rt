@@ -16,7 +16,7 @@ pub fn hmac_sha256(key: &[u8], message: &[u8]) -> [u8; 32]
 }
 
 // The key, padded with zeros to 64 bytes, with each byte xor b.
-pub fn padded(b: u8, key: &[u8]) -> [u8; 64]
+pub(crate) fn padded(b: u8, key: &[u8]) -> [u8; 64]
     requires { length key.now ≤ 64 }
     ensures { result ≡ padded b key.now }
 {
@@ -28,7 +28,7 @@ pub fn padded(b: u8, key: &[u8]) -> [u8; 64]
 }
 
 // The digest of two parts, taken as one message.
-pub fn digest_of_two(first: &[u8], second: &[u8]) -> [u8; 32]
+pub(crate) fn digest_of_two(first: &[u8], second: &[u8]) -> [u8; 32]
     ensures { result ≡ sha256 (first.now ++ second.now) }
 {
     let mut hasher = Sha256::new();

@@ -11,7 +11,7 @@ mod printed;
 mod tests;
 
 pub use form::{has_token_form, read_token};
-pub use given::{token, verify, with_token};
+pub use given::{expiry_after, token, verify, with_token};
 pub use hmac::hmac_sha256;
 pub use laws::{form_is_of_a_token, reading_is_of_a_path};
 pub use meaning_files::Verdict;
