@@ -1,9 +1,8 @@
 -- The cases of a location.
-use Rattle.std.proofs.Common.{◌≡◌, ℕ, codes, Bool, true, List, Option, Some, None, Result, Ok, Err, refl, sym, ap, ◌∙◌}
-use Rattle.std.specs.Str.{IsUtf8, is_utf8, chars}
+use Rattle.std.proofs.Common.{◌≡◌, ℕ, List, Option, None, Ok, Err, sym, ap, ◌∙◌}
+use Rattle.std.specs.Str.{IsUtf8}
 use Rattle.std.proofs.lemmas.Bool.{cond-false, cond-true, false_from_ne_true}
 use Rattle.std.proofs.lemmas.Str.{IsUtf8-from_is_utf8, is_utf8-from_IsUtf8}
-use Rattle.url.specs.declared.error.ParseError.{ParseError}
 use Rattle.url.specs.Parts.{Parts}
 use Rattle.url.specs.Parser.{parse_url}
 use Rattle.dl_base.specs.declared.sql_fault.BadLink.{BadLink}
@@ -14,14 +13,6 @@ use Rattle.dl_location.specs.Location.{location, of_parsed, judged, refusal}
 pub of_bytes : (server text : List ℕ) → (IsUtf8 text → ⊥) → location server text ≡ Err bad.NotUrl
 unfolding location
 of_bytes server text broken = cond-false _ _ _ (false_from_ne_true _ (λ e. broken (IsUtf8-from_is_utf8 _ e)))
-
--- a text that is no URL
-pub of_no_url : (server text read : List ℕ) (e : ParseError) → read ≡ text → IsUtf8 text → parse_url None read ≡ Err e → location server text ≡ Err bad.NotUrl
-unfolding location
-of_no_url server text read e same utf8 parsed =
-    cond-true _ _ _ (is_utf8-from_IsUtf8 _ utf8)
-    ∙ ap (λ (s : List ℕ). of_parsed server (parse_url None s)) (sym same)
-    ∙ ap (of_parsed server) parsed
 
 -- a text that is a URL
 pub of_url : (server text read : List ℕ) (url : Parts) (why : Option BadLink) → read ≡ text → IsUtf8 text → parse_url None read ≡ Ok url → why ≡ refusal server url

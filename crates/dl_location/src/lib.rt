@@ -3,7 +3,6 @@
 
 mod accessor;
 mod location;
-
 #[cfg(test)]
 mod tests;
 

@@ -53,10 +53,8 @@ pub fn read_location(
     server: &Name,
     text: &[u8],
 ) -> Result<(Text, Path), LocationFault>
-    ensures {
-        MatchResult result (λ kept. meaning.location server.now text.now ≡ Ok (kept.0, kept.1))
-        (λ e. meaning.IsFault e (meaning.location server.now text.now))
-    }
+    ensures { MatchResult result (λ kept. meaning.location server.now text.now ≡ Ok (kept.0, kept.1))
+        (λ e. meaning.IsFault e (meaning.location server.now text.now)) }
 {
     let Ok(text) = str::from_utf8(text) else {
         return Err(LocationFault::Bad(BadLink::NotUrl));

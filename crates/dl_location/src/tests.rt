@@ -1,5 +1,4 @@
 use crate::*;
-
 use dl_base::{BadLink, Dl, Name, Path, Text, is_name, is_path};
 use std::alloc::Global;
 use std::process::Abort;
@@ -79,7 +78,10 @@ fn locations(rt: HostRuntime) -> Result<(), Fail> {
         (b"http://fs%31/a", b"http://fs1/a|/a"),
         (b"http://\xef\xbd\x86s1/a", b"http://fs1/a|/a"),
         (b"http://fs1/\xc3\xa9", b"http://fs1/%C3%A9|/%C3%A9"),
-        (b"http://fs1/%41%7e%zz b^c", b"http://fs1/%41%7e%zz%20b%5Ec|/%41%7e%zz%20b%5Ec"),
+        (
+            b"http://fs1/%41%7e%zz b^c",
+            b"http://fs1/%41%7e%zz%20b%5Ec|/%41%7e%zz%20b%5Ec",
+        ),
         (b"http://fs1/../a//b/%2e%2E/c", b"http://fs1/a//c|/a//c"),
         (b"http://fs1/a;b,c", b"http://fs1/a;b,c|/a;b,c"),
     ];
@@ -115,7 +117,11 @@ fn accessors(rt: HostRuntime) -> Result<(), Fail> {
         (Accessor::Scheme, b"http://fs1/Film/1.mpg", b"HTTP"),
         (Accessor::Server, b"http://fs1/Film/1.mpg", b"FS1"),
         (Accessor::PathOnly, b"http://fs1/Film/1.mpg", b"/Film/1.mpg"),
-        (Accessor::Complete, b"http://fs1/Film/1.mpg", b"http://fs1/Film/1.mpg"),
+        (
+            Accessor::Complete,
+            b"http://fs1/Film/1.mpg",
+            b"http://fs1/Film/1.mpg",
+        ),
         (Accessor::Scheme, b"file://fs1/a", b"FILE"),
         (Accessor::Scheme, b"no scheme", b""),
         (Accessor::Scheme, b":", b""),

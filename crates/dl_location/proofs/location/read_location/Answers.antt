@@ -1,7 +1,5 @@
-use Rattle.std.proofs.Common.{◌≡◌, ◌∙◌, ap, sym, ℕ, List, Ok, Some, None, Option}
-use Rattle.dl_base.specs.declared.sql_fault.BadLink.{BadLink}
-use Rattle.url.specs.Parts.{serialize}
-use Rattle.dl_location.proofs.Cases.{of_bytes, of_no_url, of_url}
+use Rattle.std.proofs.Common.{◌∙◌, ap, sym, ℕ, List, Ok, Some, None}
+use Rattle.dl_location.proofs.Cases.{of_bytes, of_url}
 use Rattle.dl_location.proofs.location.read_location.Goals as goal
 
 pub returns-in_default : goal.returns-in_default
