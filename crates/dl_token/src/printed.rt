@@ -23,6 +23,7 @@ impl Model for NumberText {
 }
 
 impl NumberText {
+    /// Its bytes: decimal digits and dashes.
     pub fn bytes(&self) -> &[u8]
         ensures { result.now ≡ self.now }
     {

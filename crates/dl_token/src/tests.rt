@@ -169,10 +169,14 @@ fn forms(rt: HostRuntime) {
 #[test]
 fn readings(rt: HostRuntime) -> Result<(), Fail> {
     let alloc = rt.alloc();
-    let found = read_token(alloc, b"/x/7.00000000000000000000000000000000;a.b")?;
-    assert!(rt;
-        matches!(found, Some((path, Token { expiry: 7, mac })) if path.bytes() == b"/x/a.b".as_slice() && mac == [0u8; 16])
-    );
+    match read_token(alloc, b"/x/7.00000000000000000000000000000000;a.b")? {
+        Some((path, given)) => {
+            assert!(rt; path.bytes() == b"/x/a.b".as_slice());
+            assert_eq!(rt; given.expiry, 7);
+            assert_eq!(rt; given.mac, [0u8; 16]);
+        }
+        None => panic!(rt; "not read"),
+    }
     let table: [&[u8]; 6] = [
         b"/x/a;b",
         b"/x/07.00000000000000000000000000000000;a",
