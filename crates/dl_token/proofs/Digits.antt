@@ -1,10 +1,10 @@
 -- Digits at the front of a name.
-use Rattle.std.proofs.Common.{◌≡◌, ℕ, ◌+◌, ◌<◌, ◌≤◌, Bool, true, false, cond, List, [], ◌∷◌, length, take, refl, arith, one-add}
+use Rattle.std.proofs.Common.{◌≡◌, ℕ, ◌+◌, ◌<◌, ◌≤◌, Bool, true, false, cond, List, [], ◌∷◌, length, take, decimal, ◌^◌, refl, arith, one-add}
 use Rattle.std.specs.Char.{is_ascii_digit, digit_value}
 use Rattle.std.specs.List.{prefix_len}
 use Rattle.std.specs.Str.{IsUtf8}
 use Rattle.std.specs.Str.Parse.{AllDigits}
-use Rattle.std.proofs.lemmas.Fmt.{IsAscii-from_digits}
+use Rattle.std.proofs.lemmas.Fmt.{IsAscii-from_digits, length-decimal-le}
 use Rattle.std.proofs.lemmas.Str.{IsUtf8-from_ascii}
 use Rattle.std.proofs.lemmas.List.Sums.{prefix_len-le-length}
 use Rattle.std.proofs.lemmas.Grind.{common_steps}
@@ -23,3 +23,6 @@ front_digits (x ∷ xs) =
 
 pub digits_are_text : (ds : List ℕ) → AllDigits 10 ds → IsUtf8 ds
 digits_are_text ds all = IsUtf8-from_ascii ds (IsAscii-from_digits ds all)
+
+pub decimal_short : (n : ℕ) → n < 2 ^ 32 → length (decimal n) ≤ 10
+decimal_short n small = length-decimal-le 10 n (omega arith) (omega arith) (omega arith)

@@ -1,0 +1,3 @@
+pub mod Accessors
+pub mod Location
+pub mod Numbers
