@@ -141,10 +141,12 @@ module _ (script : List ℕ) (bodies : List (List ℕ)) (first : Catalog) (o : O
       ∙ ap (λ (l : List ℕ). Some l) (sym front.3)
 
   front_of : (n : ℕ) (told more whole : List ℕ) → whole ≡ r.said ++ (told ++ more) → IsFront (r.said ++ take n told) whole
-  front_of n told more whole is = (drop n told ++ more,
-      is ∙ ap (λ (l : List ℕ). r.said ++ (l ++ more)) (sym (take-append-drop n told))
-      ∙ ap (λ (l : List ℕ). r.said ++ l) (append_assoc (take n told) (drop n told) more)
-      ∙ sym (append_assoc r.said (take n told) (drop n told ++ more)))
+  front_of n told more whole is = (
+    drop n told ++ more,
+    is ∙ ap (λ (l : List ℕ). r.said ++ (l ++ more)) (sym (take-append-drop n told))
+        ∙ ap (λ (l : List ℕ). r.said ++ l) (append_assoc (take n told) (drop n told) more)
+        ∙ sym (append_assoc r.said (take n told) (drop n told ++ more)),
+  )
 
   -- a line without a step
   module _ (told : List ℕ) (next : List ℕ) (same : script_steps rest ≡ script_steps next)
@@ -167,15 +169,15 @@ module _ (script : List ℕ) (bodies : List (List ℕ)) (first : Catalog) (o : O
     pub during_without : (p : Pair) → IsInStep so_far [] now.files now.files m p ⊎ IsTelling (so_far ++ []) now.files told m p → IsAfterSteps script bodies first.files o.told p
     during_without p moment = ⊎_elim
         (λ (s : IsInStep so_far [] now.files now.files m p). still p
-            (⊎_elim (λ old. old) (λ new. subst (λ (l : List (List ℕ)). Stands l now.files (p.areas areas.Files)) (append-nil so_far) new) s.area) s.told)
+        (⊎_elim (λ old. old) (λ new. subst (λ (l : List (List ℕ)). Stands l now.files (p.areas areas.Files)) (append-nil so_far) new) s.area) s.told)
         (λ (t : IsTelling (so_far ++ []) now.files told m p).
-            after_steps r.count (r.said ++ take t.told.0 told) p (omega (arith, enough))
-            (subst (λ (f : Files). Stands (bodies ++ written first.files (first_steps r.count script)) f (p.areas areas.Files)) r.files
-                (subst (λ (l : List (List ℕ)). Stands l now.files (p.areas areas.Files)) (append-nil so_far) t.area))
-            (said_more told p t.told)
-            (front_of t.told.0 told (text (number + 1) 0 now.files (lines next)) (script_text r.count first.files script)
-                (ap (λ (k : ℕ). script_text k first.files script) (omega arith) ∙ r.texts 0 ∙ ap (λ (l : List ℕ). r.said ++ l) (texts 0)))
-            (λ some. front_more _ _ (take t.told.0 told) (r.behind some)))
+        after_steps r.count (r.said ++ take t.told.0 told) p (omega (arith, enough))
+        (subst (λ (f : Files). Stands (bodies ++ written first.files (first_steps r.count script)) f (p.areas areas.Files)) r.files
+        (subst (λ (l : List (List ℕ)). Stands l now.files (p.areas areas.Files)) (append-nil so_far) t.area))
+        (said_more told p t.told)
+        (front_of t.told.0 told (text (number + 1) 0 now.files (lines next)) (script_text r.count first.files script)
+        (ap (λ (k : ℕ). script_text k first.files script) (omega arith) ∙ r.texts 0 ∙ ap (λ (l : List ℕ). r.said ++ l) (texts 0)))
+        (λ some. front_more _ _ (take t.told.0 told) (r.behind some)))
         moment
 
   -- a line with a step
@@ -207,16 +209,16 @@ module _ (script : List ℕ) (bodies : List (List ℕ)) (first : Catalog) (o : O
         → IsAfterSteps script bodies first.files o.told p
     during_with p moment = ⊎_elim
         (λ (s : IsInStep so_far (writes now.files c) now.files (file_command now.files c).1 m p). ⊎_elim
-            (λ old. still p old s.told)
-            (λ new. stepped r.said p new (sym r.told ∙ s.told)
-                (told ++ text (number + 1) 0 (file_command now.files c).1 (lines next), ap (λ (k : ℕ). script_text k first.files script) (omega arith) ∙ text_next 0)
-                ([], sym (append-nil _) ∙ refl))
-            s.area)
+        (λ old. still p old s.told)
+        (λ new. stepped r.said p new (sym r.told ∙ s.told)
+        (told ++ text (number + 1) 0 (file_command now.files c).1 (lines next), ap (λ (k : ℕ). script_text k first.files script) (omega arith) ∙ text_next 0)
+        ([], sym (append-nil _) ∙ refl))
+        s.area)
         (λ (t : IsTelling (so_far ++ writes now.files c) (file_command now.files c).1 told m p).
-            stepped (r.said ++ take t.told.0 told) p t.area (said_more told p t.told)
-            (front_of t.told.0 told (text (number + 1) 0 (file_command now.files c).1 (lines next)) (script_text (r.count + 1) first.files script)
-                (ap (λ (k : ℕ). script_text k first.files script) (omega arith) ∙ text_next 0))
-            (take t.told.0 told, refl))
+        stepped (r.said ++ take t.told.0 told) p t.area (said_more told p t.told)
+        (front_of t.told.0 told (text (number + 1) 0 (file_command now.files c).1 (lines next)) (script_text (r.count + 1) first.files script)
+        (ap (λ (k : ℕ). script_text k first.files script) (omega arith) ∙ text_next 0))
+        (take t.told.0 told, refl))
         moment
       where
         stepped : (said : List ℕ) (p : Pair) → Stands (so_far ++ writes now.files c) (file_command now.files c).1 (p.areas areas.Files)
@@ -225,6 +227,6 @@ module _ (script : List ℕ) (bodies : List (List ℕ)) (first : Catalog) (o : O
         stepped said p stands told_is ahead behind =
             after_steps (r.count + 1) said p (omega (arith, enough, ap length is))
             (subst (λ (f : Files). Stands (bodies ++ written first.files (first_steps (r.count + 1) script)) f (p.areas areas.Files)) (files_next c (script_steps next) is)
-                (subst (λ (l : List (List ℕ)). Stands l (file_command now.files c).1 (p.areas areas.Files)) (list_next c (script_steps next) is) stands))
+            (subst (λ (l : List (List ℕ)). Stands l (file_command now.files c).1 (p.areas areas.Files)) (list_next c (script_steps next) is) stands))
             told_is ahead
             (λ some. (behind.0, behind.1 ∙ ap (λ (l : List ℕ). l ++ behind.0) (sym text_now ∙ ap (λ (k : ℕ). script_text k first.files script) (omega arith))))

@@ -89,7 +89,7 @@ module _ (script : List ℕ) (bodies : List (List ℕ)) (first : Catalog) (o : O
   pub full_next : (full : Full) → IsFullLine now line full → IsFullAt script bodies first.files now.limit full
   full_next full f =
       let next_step : script_steps script ≡ first_steps r.count script ++ f.cmd ∷ script_steps next =
-          r.steps_are ∙ ap (λ (l : List FileCmd). first_steps r.count script ++ l) (steps_of (Some f.cmd) f.is) in
+      r.steps_are ∙ ap (λ (l : List FileCmd). first_steps r.count script ++ l) (steps_of (Some f.cmd) f.is) in
       let long : now.length + 9 + length (record_of f.cmd) ≡ length_with (so_far script bodies first o now rest number m r) (record_of f.cmd) = omega (arith, r.holds.keeps.length) in
       record {
         count = r.count;
@@ -105,9 +105,9 @@ pub reached_all : (script : List ℕ) (bodies : List (List ℕ)) (first : Catalo
     → Reached script bodies first o now rest number m → rest ≡ [] → AreDone script bodies first now o m
 reached_all script bodies first o now rest number m r none =
     let all : first_steps r.count script ≡ script_steps script =
-        sym (append-nil (first_steps r.count script)) ∙ ap (λ (l : List ℕ). first_steps r.count script ++ script_steps l) (sym none) ∙ sym r.steps_are in
+    sym (append-nil (first_steps r.count script)) ∙ ap (λ (l : List ℕ). first_steps r.count script ++ script_steps l) (sym none) ∙ sym r.steps_are in
     let text_is : script_text r.count first.files script ≡ r.said =
-        ap (λ (k : ℕ). script_text k first.files script) (omega arith) ∙ r.texts 0 ∙ ap (λ (l : List ℕ). r.said ++ text number 0 now.files (lines l)) none ∙ append-nil r.said in
+    ap (λ (k : ℕ). script_text k first.files script) (omega arith) ∙ r.texts 0 ∙ ap (λ (l : List ℕ). r.said ++ text number 0 now.files (lines l)) none ∙ append-nil r.said in
     record {
       told = r.told ∙ ap (λ (l : List ℕ). extended l o.told) (sym text_is) ∙ ap (λ (k : ℕ). extended (script_text k first.files script) o.told) (sym r.counted ∙ ap length all);
       holds = subst (λ (l : List FileCmd). Holds now (bodies ++ written first.files l) m) all r.holds;

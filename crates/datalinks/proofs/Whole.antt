@@ -29,9 +29,9 @@ module _ (o : Outside) (bodies : List (List ℕ)) (files : Files) (entry : IsEnt
     opening_stands c opening = ⊎_elim
         (λ image. all c image)
         (λ (same : (told : List ℕ) × (o.reads areas.Files ≡ Some told) × (records c ≡ records told)).
-            let is_read : same.0 ≡ entry.bytes = (let a = same.1 in let b = entry.reads in cc) in
-            let whole : files_in c ≡ Ok files = ap files_of_list (same.2 ∙ ap records is_read ∙ entry.list) ∙ entry.stands in
-            subst (λ (r : Result Files ℕ). IsOk r) (sym whole) refl)
+        let is_read : same.0 ≡ entry.bytes = (let a = same.1 in let b = entry.reads in cc) in
+        let whole : files_in c ≡ Ok files = ap files_of_list (same.2 ∙ ap records is_read ∙ entry.list) ∙ entry.stands in
+        subst (λ (r : Result Files ℕ). IsOk r) (sym whole) refl)
         opening
 
     -- at the begin
@@ -48,7 +48,7 @@ module _ (o : Outside) (bodies : List (List ℕ)) (files : Files) (entry : IsEnt
         → Moments (IsAfterSteps script bodies store.files m.told) m n → Moments (IsInRun script bodies files o) o n
     run_then script store m n t same lines = moments_then (IsInRun script bodies files o) o m n (run_opening script m t)
         (moments_more (IsAfterSteps script bodies store.files m.told) (IsInRun script bodies files o) m n
-            (λ p after. inr (subst (λ (f : Files). IsAfterSteps script bodies f o.told p) same (subst (λ (told : Option (List ℕ)). IsAfterSteps script bodies store.files told p) t.told after))) lines)
+        (λ p after. inr (subst (λ (f : Files). IsAfterSteps script bodies f o.told p) same (subst (λ (told : Option (List ℕ)). IsAfterSteps script bodies store.files told p) t.told after))) lines)
 
     -- every moment since the begin
     pub run_since : (script : List ℕ) (n : Outside) → IsLawful o → Moments (IsInRun script bodies files o) o n → (p : Pair) → n.since o.moment p → IsInRun script bodies files o p

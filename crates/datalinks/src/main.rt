@@ -9,6 +9,8 @@ mod run;
 mod script;
 mod single;
 mod status;
+#[cfg(test)]
+mod tests;
 mod words;
 
 use dl_base::{List, Memory, Text};

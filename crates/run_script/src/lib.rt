@@ -3,6 +3,8 @@
 
 mod command;
 mod line;
+#[cfg(test)]
+mod tests;
 
 pub use command::command_of;
 pub use line::{first_line, is_quiet};

@@ -23,7 +23,7 @@ returns-in-Err-clause-images g c bodies held =
     let r = c.loop-rest.invariant.reached bodies held in
     moments_then (IsAfterSteps c.args.script.now bodies c.args.store.now.files o.told) o m n (c.loop-rest.invariant.moments bodies held)
     (moments_next c.args.script.now bodies c.args.store.now o c.loop-rest.store c.loop-rest.rest.now c.loop-rest.number m r
-        c.first_line.result.0.now c.first_line.result.1.now c.first_line.ensures.first n (c.do_line.ensures.images _ r.holds))
+    c.first_line.result.0.now c.first_line.result.1.now c.first_line.ensures.first n (c.do_line.ensures.images _ r.holds))
 
 pub returns-in-Err-clause-full : goal.returns-in-Err-clause-full
 returns-in-Err-clause-full g c full is bodies held =
@@ -31,7 +31,7 @@ returns-in-Err-clause-full g c full is bodies held =
     let m = g.B.Bench.outside c.loop-rest.bench in
     let r = c.loop-rest.invariant.reached bodies held in
     let at = full_next c.args.script.now bodies c.args.store.now o c.loop-rest.store c.loop-rest.rest.now c.loop-rest.number m r
-        c.first_line.result.0.now c.first_line.result.1.now c.first_line.ensures.first full (c.do_line.ensures.full full (c.in-Err.is ∙ is)) in
+    c.first_line.result.0.now c.first_line.result.1.now c.first_line.ensures.first full (c.do_line.ensures.full full (c.in-Err.is ∙ is)) in
     subst (λ (limit : ℕ). IsFullAt c.args.script.now bodies c.args.store.now.files limit full) c.loop-rest.invariant.limit at
 
 pub loop-rest-preserved : goal.loop-rest-preserved
@@ -50,5 +50,5 @@ loop-rest-preserved g c =
       moments = λ bodies held. let r = c.loop-rest.invariant.reached bodies held in
           moments_then (IsAfterSteps c.args.script.now bodies c.args.store.now.files o.told) o m n (c.loop-rest.invariant.moments bodies held)
           (moments_next c.args.script.now bodies c.args.store.now o c.loop-rest.store c.loop-rest.rest.now c.loop-rest.number m r
-              c.first_line.result.0.now c.first_line.result.1.now c.first_line.ensures.first n (c.do_line.ensures.images _ r.holds));
+          c.first_line.result.0.now c.first_line.result.1.now c.first_line.ensures.first n (c.do_line.ensures.images _ r.holds));
     }
