@@ -1,6 +1,5 @@
 -- Entries in any order, and the files that they are.
-use Rattle.std.proofs.Common.{◌≡◌, ℕ, ◌+◌, Bool, true, false, cond, List, [], ◌∷◌, length, map, is_some, refl, sym, ap, subst, ◌∙◌, arith, Option, Some, None, nat_eq}
-use Rattle.std.specs.Cmp.{IsEquivalence}
+use Rattle.std.proofs.Common.{◌≡◌, ℕ, ◌+◌, Bool, true, false, cond, List, [], ◌∷◌, length, is_some, refl, sym, ap, subst, ◌∙◌, arith, Option, Some, None, nat_eq}
 use Rattle.std.specs.Cmp.Lexicographic.{slice_cmp, pointwise, nat_list_cmp_total, nat_list_eq_equiv, texts_ties, bytes_decides}
 use Rattle.std.specs.FinMap as files
 use Rattle.std.specs.List.{IsDistinct, AllByRecursion}

@@ -1,5 +1,5 @@
 -- What an append leaves of the files.
-use Rattle.std.proofs.Common.{◌≡◌, ◌⊎◌, inl, inr, ⊎_elim, ℕ, List, [], ◌∷◌, ◌++◌, refl, sym, ap, subst, ◌∙◌, Option, Some, None, Ok}
+use Rattle.std.proofs.Common.{◌≡◌, inl, inr, ⊎_elim, ℕ, List, [], ◌∷◌, ◌++◌, sym, ap, subst, ◌∙◌, Option, Some, None}
 use Rattle.dl_base.proofs.Moments.{touches_none, touches_more}
 use Rattle.dl_base.specs.Outside.{Outside, Touches}
 use Rattle.dl_base.specs.declared.answer.FileRefusal.{FileRefusal}
@@ -14,7 +14,7 @@ use Rattle.dl_journal.specs.Open.{Keeps, AddsOne, grown}
 use Rattle.dl_journal.specs.Records.{IsAtRest}
 use Rattle.fs_files.specs.Store.{Catalog, extent, Holds, Stands, StandsWithout, StandsAround}
 use Rattle.meaning_areas.proofs.FilesLaws.{files_of-push, files_step-user_record, changes_of-accepted}
-use Rattle.meaning_areas.specs.FilesArea.{files_of, with_changes, changes_of, user_record, user_records, accepted_writes, writes}
+use Rattle.meaning_areas.specs.FilesArea.{with_changes, changes_of, user_record, user_records, accepted_writes, writes}
 use Rattle.meaning_files.specs.Commands.{refusal, changed}
 use Rattle.meaning_files.specs.Files.{Files}
 
@@ -60,12 +60,12 @@ writes_record now j files made body o n view at fits is t =
         let was : Holds (seen j files) bodies o = subst (λ (k : Catalog). Holds k bodies o) (sym view) held in
         let before : Keeps j bodies o = subst (λ (e : Extent). Keeps e bodies o) (extent-seen j files at) was.keeps in
         ⊎_elim
-            (λ old. inl (record { at_rest = old; stands = held.stands }))
-            (λ new. inr (record {
-                at_rest = subst (λ (b : List ℕ). IsAtRest (bodies ++ b ∷ []) c) is new;
-                stands = files_of-push bodies now.files later (user_record made) held.stands (files_step-user_record now.files made fits ∙ changed);
-            }))
-            (adds bodies before)
+        (λ old. inl (record { at_rest = old; stands = held.stands }))
+        (λ new. inr (record {
+          at_rest = subst (λ (b : List ℕ). IsAtRest (bodies ++ b ∷ []) c) is new;
+          stands = files_of-push bodies now.files later (user_record made) held.stands (files_step-user_record now.files made fits ∙ changed);
+        }))
+        (adds bodies before)
 
 -- a command is done
 pub command_around : (now : Catalog) (cmd : FileCmd) (change : FileChange) (o n : Outside) → refusal now.files cmd ≡ None → changes_of cmd.user cmd.what ≡ change ∷ []

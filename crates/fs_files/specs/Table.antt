@@ -1,9 +1,6 @@
 -- What a table of files is seen as.
-use Rattle.std.specs.Prelude.{ℕ, List, Option, Some, None, refl}
+use Rattle.std.specs.Prelude.{ℕ, refl}
 use Rattle.std.specs.Coded.{Coded, code_by, coded×, coded_ℕ}
-use Rattle.std.specs.FinMap as map
-use Rattle.dl_base.specs.declared.file.File.{File}
-use Rattle.dl_base.specs.declared.file.Owner.{Owner}
 use Rattle.meaning_files.specs.Files.{Files, files_code}
 
 -- the files, and for how many more there is room

@@ -1,5 +1,5 @@
 -- Laws of folds.
-use Rattle.std.proofs.Common.{◌≡◌, ℕ, ◌+◌, List, [], ◌∷◌, ◌++◌, length, refl, sym, ap, ◌∙◌, arith, Option, Some, None, Result, Ok, Err}
+use Rattle.std.proofs.Common.{◌≡◌, ℕ, ◌+◌, List, [], ◌∷◌, ◌++◌, length, refl, ap, ◌∙◌, arith, Option, Some, Result, Ok, Err}
 use Rattle.std.specs.Option.{ok_or}
 use Rattle.dl_journal.specs.Records.{size}
 use Rattle.meaning_areas.specs.Folds.{taken, folded}

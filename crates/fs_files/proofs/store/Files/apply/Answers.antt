@@ -1,4 +1,4 @@
-use Rattle.std.proofs.Common.{ap, None, true}
+use Rattle.std.proofs.Common.{ap}
 use Rattle.dl_base.specs.declared.file.FileChange.TheVariants.{Put, Removed}
 use Rattle.dl_base.specs.declared.file.FileWhat.{FileWhat}
 use Rattle.meaning_areas.specs.FilesArea.{changes_of}
