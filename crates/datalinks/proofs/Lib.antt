@@ -1,5 +1,6 @@
 pub mod Sources
 pub mod Causes
+pub mod Complete
 pub mod Running
 pub mod Turning
 pub mod Whole

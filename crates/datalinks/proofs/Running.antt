@@ -1,23 +1,34 @@
 -- A run, line by line.
-use Rattle.std.proofs.Common.{◌≡◌, ◌⊎◌, inl, inr, ⊎_elim, ℕ, suc, ◌+◌, ◌-◌, ◌<◌, ◌≤◌, List, [], ◌∷◌, ◌++◌, length, take, drop, refl, sym, ap, subst, ◌∙◌, arith, append_assoc, length-append, Option, Some, None, Ok, add-one}
+use Rattle.std.proofs.Common.{◌≡◌, ◌⊎◌, inl, inr, ⊎_elim, ℕ, suc, ◌+◌, ◌-◌, ◌<◌, ◌≤◌, List, [], ◌∷◌, ◌++◌, length, take, drop, refl, sym, ap, subst, ◌∙◌, arith, append_assoc, length-append, Option, Some, None, Ok, add-one, slice_get, get_or, min, ◌^◌}
 use Rattle.std.proofs.lemmas.List.{append-nil, take-append-drop, take_at, length-take-le, take_all}
+use Rattle.std.proofs.lemmas.Bool.{cases_lt}
+use Rattle.std.proofs.lemmas.Option.{slice_get-get_or}
+use Rattle.std.proofs.Math.Seq.{get_or-append_seam}
 use Rattle.std.specs.Str.Lines.{lines}
 use Rattle.dl_base.proofs.Moments.{moments_more, moments_then}
 use Rattle.dl_base.specs.Outside.{Outside, Pair, Moments, TellsFront, extended}
 use Rattle.dl_base.specs.declared.area.Area.TheVariants as areas
+use Rattle.dl_base.specs.declared.fault.Full.{Full}
+use Rattle.dl_base.specs.declared.fault.Full.TheVariants as fulls
 use Rattle.dl_base.specs.declared.file.FileCmd.{FileCmd}
 use Rattle.dl_journal.proofs.Records.{records-at_rest}
 use Rattle.dl_journal.specs.Records.{records}
-use Rattle.fs_files.specs.Store.{Catalog, Holds, Stands}
+use Rattle.fs_files.specs.Store.{Catalog, Holds, Stands, IsWriting, record_of}
 use Rattle.meaning_areas.specs.FilesArea.{files_in, files_of_list, writes, written}
-use Rattle.meaning_files.specs.Commands.{file_command}
+use Rattle.meaning_files.specs.Commands.{refusal, file_command}
 use Rattle.meaning_files.specs.Files.{Files}
 use Rattle.meaning_script.specs.Lines.{command_of}
 use Rattle.meaning_script.specs.Steps.{steps, files_after, line_files, text, text_after, told_answer, line_answer}
-use Rattle.datalinks.specs.Lines.{line_writes, line_told, IsInStep, IsTelling, IsInLine, IsAfterLine}
-use Rattle.datalinks.specs.Run.{script_steps, first_steps, script_text, IsFront, IsAfterSteps}
+use Rattle.datalinks.specs.Lines.{line_writes, line_told, IsInStep, IsTelling, IsInLine, IsAfterLine, IsFullStep}
+use Rattle.datalinks.specs.Run.{script_steps, first_steps, script_text, IsFront, IsAfterSteps, IsFullAt, length_with}
 
 -- ---- lists of steps
+
+-- what stands behind a front
+pub slice_get_seam : (xs : List FileCmd) (c : FileCmd) (ys : List FileCmd) (n : ℕ) → length xs ≡ n → slice_get (xs ++ c ∷ ys) n ≡ Some c
+slice_get_seam xs c ys n is =
+    slice_get-get_or (xs ++ c ∷ ys) n c (omega (arith, is, length-append xs (c ∷ ys)))
+    ∙ ap (λ (k : ℕ). Some (get_or (xs ++ c ∷ ys) k c)) (sym is) ∙ ap (λ (x : FileCmd). Some x) (get_or-append_seam xs c ys c)
 
 files_after-push : (files : Files) (xs : List FileCmd) (c : FileCmd) → files_after files (xs ++ c ∷ []) ≡ (file_command (files_after files xs) c).1
 files_after-push files [] c = refl
@@ -50,6 +61,7 @@ pub record Reached (script : List ℕ) (bodies : List (List ℕ)) (first : Catal
   pub told : m.told ≡ extended said o.told
   pub texts : (k : ℕ) → script_text (count + k) first.files script ≡ said ++ text number k now.files (lines rest)
   pub behind : 0 < count → IsFront (script_text (count - 1) first.files script) said
+  pub room : (full : Full) (f : IsFullAt script bodies first.files first.limit full) → f.count < count → ⊥
 
 extended-none : (o : Option (List ℕ)) → o ≡ extended [] o
 extended-none None = refl
@@ -74,6 +86,7 @@ reached_none script bodies first o held = record {
   told = extended-none o.told;
   texts = λ k. ap (λ (j : ℕ). script_text j first.files script) (omega arith);
   behind = λ none. absurd (omega arith);
+  room = λ full f none. absurd (omega (arith, none));
 }
 
 module _ (script : List ℕ) (bodies : List (List ℕ)) (first : Catalog) (o : Outside) (now : Catalog) (rest : List ℕ) (number : ℕ) (m : Outside) (r : Reached script bodies first o now rest number m) where
@@ -164,6 +177,7 @@ module _ (script : List ℕ) (bodies : List (List ℕ)) (first : Catalog) (o : O
       texts = λ k. r.texts k ∙ ap (λ (l : List ℕ). r.said ++ l) (texts k) ∙ sym (append_assoc r.said told (text (number + 1) k now.files (lines next)))
           ∙ ap (λ (f : Files). (r.said ++ told) ++ text (number + 1) k f (lines next)) (sym files);
       behind = λ some. front_more _ _ told (r.behind some);
+      room = r.room;
     }
 
     pub during_without : (p : Pair) → IsInStep so_far [] now.files now.files m p ⊎ IsTelling (so_far ++ []) now.files told m p → IsAfterSteps script bodies first.files o.told p
@@ -190,9 +204,38 @@ module _ (script : List ℕ) (bodies : List (List ℕ)) (first : Catalog) (o : O
     text_next : (k : ℕ) → script_text (r.count + 1 + k) first.files script ≡ r.said ++ (told ++ text (number + 1) k (file_command now.files c).1 (lines next))
     text_next k = ap (λ (j : ℕ). script_text j first.files script) (omega arith) ∙ r.texts (suc k) ∙ ap (λ (l : List ℕ). r.said ++ l) (texts k)
 
-    pub reached_with : (later : Catalog) (n : Outside) → later.files ≡ (file_command now.files c).1 → Holds later (so_far ++ writes now.files c) n → n.told ≡ extended told m.told
+    -- its record does not pass the limit, nor do those of the steps before
+    room_next : now.limit ≡ first.limit → ((full : Full) → IsFullStep now c full → ⊥) → (full : Full) (f : IsFullAt script bodies first.files first.limit full) → f.count < r.count + 1 → ⊥
+    room_next limit free full f lt = elim (cases_lt f.count r.count) [
+      | inl before ↦ r.room full f before
+      | inr past ↦ free full (full_now f.count f.cmd (omega (arith, lt, past)) (is_next f.count f.cmd (omega (arith, lt, past)) f.next) f.accepted f.writing f.passes f.full_is)
+    ]
+      where
+        is_next : (k : ℕ) (d : FileCmd) → k ≡ r.count → slice_get (script_steps script) k ≡ Some d → d ≡ c
+        is_next k d at there =
+            let here : slice_get (script_steps script) r.count ≡ Some c =
+            ap (λ (l : List FileCmd). slice_get l r.count) (r.steps_are ∙ ap (λ (l : List FileCmd). first_steps r.count script ++ l) is)
+            ∙ slice_get_seam (first_steps r.count script) c (script_steps next) r.count r.counted in
+            cc (at, there, here)
+
+        full_now : (k : ℕ) (d : FileCmd) → k ≡ r.count → d ≡ c → refusal (files_after first.files (first_steps k script)) d ≡ None → IsWriting d.what
+            → first.limit < length_with (bodies ++ written first.files (first_steps k script)) (record_of d)
+            → full ≡ fulls.Area areas.Files (min (length_with (bodies ++ written first.files (first_steps k script)) (record_of d)) (2 ^ 64 - 1)) → IsFullStep now c full
+        full_now k d at same accepted writing passes full_is =
+            let long : length_with (bodies ++ written first.files (first_steps k script)) (record_of d) ≡ now.length + 9 + length (record_of c) =
+            ap (λ (j : ℕ). length_with (bodies ++ written first.files (first_steps j script)) (record_of d)) at
+            ∙ ap (λ (e : FileCmd). length_with so_far (record_of e)) same ∙ omega (arith, r.holds.keeps.length) in
+            record {
+              accepted = ap (λ (f : Files). refusal f c) r.files ∙ ap (λ (e : FileCmd). refusal (files_after first.files (first_steps r.count script)) e) (sym same)
+                  ∙ ap (λ (j : ℕ). refusal (files_after first.files (first_steps j script)) d) (sym at) ∙ accepted;
+              writing = subst (λ (e : FileCmd). IsWriting e.what) same writing;
+              passes = omega (arith, limit, passes, long);
+              full_is = full_is ∙ ap (λ (n : ℕ). fulls.Area areas.Files (min n (2 ^ 64 - 1))) long;
+            }
+
+    pub reached_with : now.limit ≡ first.limit → ((full : Full) → IsFullStep now c full → ⊥) → (later : Catalog) (n : Outside) → later.files ≡ (file_command now.files c).1 → Holds later (so_far ++ writes now.files c) n → n.told ≡ extended told m.told
         → Reached script bodies first o later next (number + 1) n
-    reached_with later n files held told_is = record {
+    reached_with limit free later n files held told_is = record {
       count = r.count + 1;
       said = r.said ++ told;
       steps_are = steps_next c (script_steps next) is ∙ ap (λ (l : List FileCmd). l ++ script_steps next) (sym (first_next c (script_steps next) is));
@@ -203,6 +246,7 @@ module _ (script : List ℕ) (bodies : List (List ℕ)) (first : Catalog) (o : O
       texts = λ k. text_next k ∙ sym (append_assoc r.said told (text (number + 1) k (file_command now.files c).1 (lines next)))
           ∙ ap (λ (f : Files). (r.said ++ told) ++ text (number + 1) k f (lines next)) (sym files);
       behind = λ some. (told, ap (λ (l : List ℕ). l ++ told) (sym text_now ∙ ap (λ (k : ℕ). script_text k first.files script) (omega arith)));
+      room = room_next limit free;
     }
 
     pub during_with : (p : Pair) → IsInStep so_far (writes now.files c) now.files (file_command now.files c).1 m p ⊎ IsTelling (so_far ++ writes now.files c) (file_command now.files c).1 told m p

@@ -1,8 +1,8 @@
 -- A turn of the loop over lines, and its end.
-use Rattle.std.proofs.Common.{◌≡◌, ◌⊎◌, inl, inr, ℕ, suc, zero, ◌+◌, ◌-◌, ◌<◌, ◌≤◌, min, ◌^◌, List, [], ◌∷◌, ◌++◌, length, take, refl, sym, ap, subst, ◌∙◌, arith, length-append, Option, Some, None, Ok, slice_get, get_or, add-one}
+use Rattle.std.proofs.Common.{◌≡◌, ◌⊎◌, inl, inr, ℕ, suc, zero, ◌+◌, ◌-◌, ◌<◌, ◌≤◌, min, ◌^◌, List, [], ◌∷◌, ◌++◌, length, take, refl, sym, ap, subst, ◌∙◌, arith, length-append, Option, Some, None, Ok, slice_get, get_or, add-one, true, false, ◌==◌}
+use Rattle.std.proofs.lemmas.Bool.Decides.{nat_tests}
 use Rattle.std.proofs.lemmas.List.{append-nil, take_all}
-use Rattle.std.proofs.lemmas.Option.{slice_get-get_or}
-use Rattle.std.proofs.Math.Seq.{get_or-append_seam}
+use Rattle.std.proofs.lemmas.Option.{slice_get_within}
 use Rattle.std.specs.List.{cons_option}
 use Rattle.std.specs.Str.Lines.{lines}
 use Rattle.dl_base.proofs.Moments.{moments_more, moments_then}
@@ -20,13 +20,7 @@ use Rattle.meaning_script.specs.Lines.{command_of}
 use Rattle.meaning_script.specs.Steps.{steps, files_after, line_files, line_answer, told_answer, text, text_after}
 use Rattle.datalinks.specs.Lines.{line_writes, line_told, IsInLine, IsInStep, IsTelling, IsAfterLine, IsFullLine, IsFullStep}
 use Rattle.datalinks.specs.Run.{script_steps, first_steps, script_text, whole_text, IsAfterSteps, IsFullAt, AreDone, length_with}
-use Rattle.datalinks.proofs.Running.{Reached, so_far, reached_without, reached_with, during_without, during_with}
-
--- what stands behind a front
-slice_get_seam : (xs : List FileCmd) (c : FileCmd) (ys : List FileCmd) (n : ℕ) → length xs ≡ n → slice_get (xs ++ c ∷ ys) n ≡ Some c
-slice_get_seam xs c ys n is =
-    slice_get-get_or (xs ++ c ∷ ys) n c (omega (arith, is, length-append xs (c ∷ ys)))
-    ∙ ap (λ (k : ℕ). Some (get_or (xs ++ c ∷ ys) k c)) (sym is) ∙ ap (λ (x : FileCmd). Some x) (get_or-append_seam xs c ys c)
+use Rattle.datalinks.proofs.Running.{Reached, slice_get_seam, so_far, reached_without, reached_with, during_without, during_with}
 
 module _ (script : List ℕ) (bodies : List (List ℕ)) (first : Catalog) (o : Outside) (now : Catalog) (rest : List ℕ) (number : ℕ) (m : Outside)
     (r : Reached script bodies first o now rest number m) (line next : List ℕ) (is : lines rest ≡ line ∷ lines next) where
@@ -46,9 +40,9 @@ module _ (script : List ℕ) (bodies : List (List ℕ)) (first : Catalog) (o : O
   steps_of cmd at = ap (λ (ls : List (List ℕ)). steps ls) is ∙ ap (λ (x : Option FileCmd). cons_option x (script_steps next)) at
 
   -- one line more
-  pub reached_next : (later : Catalog) (n : Outside) → IsAfterLine number line (so_far script bodies first o now rest number m r) now later m n
+  pub reached_next : now.limit ≡ first.limit → ((full : Full) → IsFullLine now line full → ⊥) → (later : Catalog) (n : Outside) → IsAfterLine number line (so_far script bodies first o now rest number m r) now later m n
       → Reached script bodies first o later next (number + 1) n
-  reached_next later n after = by (command_of line) refl
+  reached_next limit free later n after = by (command_of line) refl
     where
       held : (cmd : Option FileCmd) → command_of line ≡ cmd → Holds later (so_far script bodies first o now rest number m r ++ line_writes now.files cmd) n
       held cmd at = subst (λ (x : Option FileCmd). Holds later (so_far script bodies first o now rest number m r ++ line_writes now.files x) n) at after.holds
@@ -62,7 +56,7 @@ module _ (script : List ℕ) (bodies : List (List ℕ)) (first : Catalog) (o : O
           later n (after.files ∙ ap (λ (x : Option FileCmd). line_files now.files x) at) (held None at) (told None at)
       by (Some c) at =
           reached_with script bodies first o now rest number m r c (told_answer number (line_answer now.files line (Some c))) next (steps_of (Some c) at)
-          (texts (Some c) at 0) (λ k. texts (Some c) at (suc k))
+          (texts (Some c) at 0) (λ k. texts (Some c) at (suc k)) limit (λ full step. free full (record { cmd = c; is = at; step = step }))
           later n (after.files ∙ ap (λ (x : Option FileCmd). line_files now.files x) at) (held (Some c) at) (told (Some c) at)
 
   -- a moment of the line, by its command
@@ -96,9 +90,14 @@ module _ (script : List ℕ) (bodies : List (List ℕ)) (first : Catalog) (o : O
         cmd = f.cmd;
         next = ap (λ (l : List FileCmd). slice_get l r.count) next_step ∙ slice_get_seam (first_steps r.count script) f.cmd (script_steps next) r.count r.counted;
         accepted = ap (λ (files : Files). refusal files f.cmd) (sym r.files) ∙ f.step.accepted;
+        writing = f.step.writing;
         passes = subst (λ (n : ℕ). now.limit < n) long f.step.passes;
         full_is = f.step.full_is ∙ ap (λ (n : ℕ). fulls.Area areas.Files (min n (2 ^ 64 - 1))) long;
       }
+
+pub empty_is : (l : List ℕ) → true ≡ (length l == 0) → l ≡ []
+empty_is [] t = refl
+empty_is (x ∷ xs) t = let no : (length (x ∷ xs) == 0) ≡ false = grind (arith, nat_tests) in cc (t, no)
 
 -- behind the last line
 pub reached_all : (script : List ℕ) (bodies : List (List ℕ)) (first : Catalog) (o : Outside) (now : Catalog) (rest : List ℕ) (number : ℕ) (m : Outside)
@@ -112,4 +111,5 @@ reached_all script bodies first o now rest number m r none =
       told = r.told ∙ ap (λ (l : List ℕ). extended l o.told) (sym text_is) ∙ ap (λ (k : ℕ). extended (script_text k first.files script) o.told) (sym r.counted ∙ ap length all);
       holds = subst (λ (l : List FileCmd). Holds now (bodies ++ written first.files l) m) all r.holds;
       files = r.files ∙ ap (λ (l : List FileCmd). files_after first.files l) all;
+      room = λ full f. r.room full f (omega (arith, slice_get_within (script_steps script) f.count f.cmd f.next, r.counted, ap length all));
     }

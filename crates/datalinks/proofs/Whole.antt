@@ -3,6 +3,7 @@ use Rattle.std.proofs.Common.{◌≡◌, ◌⊎◌, inl, inr, ⊎_elim, ℕ, Lis
 use Rattle.dl_base.proofs.Moments.{moments_none, moments_more, moments_then, moments_touch, since_begin}
 use Rattle.dl_base.specs.Outside.{Outside, Pair, Now, During, Moments, Touches, IsLawful, extended}
 use Rattle.dl_base.specs.declared.area.Area.TheVariants as areas
+use Rattle.dl_base.specs.declared.fault.Full.{Full}
 use Rattle.dl_journal.proofs.Records.{records-at_rest}
 use Rattle.dl_journal.specs.Open.{IsList, IsOpening}
 use Rattle.dl_journal.specs.Records.{records}
@@ -10,7 +11,7 @@ use Rattle.fs_files.specs.Store.{Catalog, Holds}
 use Rattle.meaning_areas.specs.FilesArea.{files_in, files_of, files_of_list, written}
 use Rattle.meaning_files.specs.Files.{Files}
 use Rattle.meaning_script.specs.Steps.{files_after}
-use Rattle.datalinks.specs.Run.{script_steps, whole_text, IsEntry, AllStand, IsOfOpening, IsInRun, IsAfterSteps, IsWholeRun, AreDone}
+use Rattle.datalinks.specs.Run.{script_steps, whole_text, IsEntry, AllStand, IsOfOpening, IsInRun, IsAfterSteps, IsWholeRun, IsFullAt, AreDone, most_area}
 
 module _ (o : Outside) (bodies : List (List ℕ)) (files : Files) (entry : IsEntry o bodies files) where
   -- what was opened is what the area reads
@@ -55,11 +56,12 @@ module _ (o : Outside) (bodies : List (List ℕ)) (files : Files) (entry : IsEnt
     run_since script n law moments p left = since_begin (IsInRun script bodies files o) o n law moments (run_at_entry script) p left
 
   -- a run that is whole
-  pub whole_run : (script : List ℕ) (store last : Catalog) (m n : Outside) → IsLawful n → m.told ≡ o.told → store.files ≡ files → AreDone script bodies store last m n → IsWholeRun script bodies files o n
-  whole_run script store last m n law told same done = record {
+  pub whole_run : (script : List ℕ) (store last : Catalog) (m n : Outside) → IsLawful n → m.told ≡ o.told → store.files ≡ files → store.limit ≡ most_area → AreDone script bodies store last m n → IsWholeRun script bodies files o n
+  whole_run script store last m n law told same limit done = record {
     told = done.told ∙ ap (λ (f : Files). extended (whole_text f script) m.told) same ∙ ap (λ (x : Option (List ℕ)). extended (whole_text files script) x) told;
     list = λ bytes reads. records-at_rest _ bytes (done.holds.keeps.images bytes (law.as_it_reads areas.Files bytes reads))
         ∙ ap (λ (f : Files). Ok (bodies ++ written f (script_steps script))) same;
     stands = λ bytes reads. ap files_of_list (records-at_rest _ bytes (done.holds.keeps.images bytes (law.as_it_reads areas.Files bytes reads)))
         ∙ done.holds.stands ∙ ap (λ (f : Files). Ok f) (done.files ∙ ap (λ (f : Files). files_after f (script_steps script)) same);
+    room = λ full f. done.room full (subst (λ (l : ℕ). IsFullAt script bodies store.files l full) (sym limit) (subst (λ (x : Files). IsFullAt script bodies x most_area full) (sym same) f));
   }

@@ -1,5 +1,6 @@
 pub mod Blind
 pub mod Codes
+pub mod Complete
 pub mod Lines
 pub mod Run
 pub mod Script

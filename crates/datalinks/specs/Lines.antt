@@ -4,7 +4,7 @@ use Rattle.dl_base.specs.Outside.{Outside, Pair, TellsFront, extended}
 use Rattle.dl_base.specs.declared.area.Area.TheVariants as areas
 use Rattle.dl_base.specs.declared.fault.Full.{Full}
 use Rattle.dl_base.specs.declared.file.FileCmd.{FileCmd}
-use Rattle.fs_files.specs.Store.{Catalog, Holds, Stands, record_of, full_with, IsFullWith}
+use Rattle.fs_files.specs.Store.{Catalog, Holds, Stands, IsWriting, record_of, full_with, IsFullWith}
 use Rattle.meaning_areas.specs.FilesArea.{writes}
 use Rattle.meaning_files.specs.Commands.{refusal}
 use Rattle.meaning_files.specs.Files.{Files}
@@ -45,6 +45,7 @@ pub record IsAfterLine (number : ℕ) (line : List ℕ) (bodies : List (List ℕ
 -- a step that is not refused, but whose record would pass the limit
 pub record IsFullStep (c : Catalog) (cmd : FileCmd) (full : Full) : Type 0 where
   pub accepted : refusal c.files cmd ≡ None
+  pub writing : IsWriting cmd.what
   pub passes : IsFullWith c (record_of cmd)
   pub full_is : full ≡ full_with c (record_of cmd)
 

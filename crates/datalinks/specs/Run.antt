@@ -9,7 +9,7 @@ use Rattle.dl_base.specs.declared.fault.Full.TheVariants as fulls
 use Rattle.dl_base.specs.declared.file.FileCmd.{FileCmd}
 use Rattle.dl_journal.specs.Open.{IsOpening, IsUnwritten}
 use Rattle.dl_journal.specs.Records.{records, size}
-use Rattle.fs_files.specs.Store.{Catalog, Holds, record_of}
+use Rattle.fs_files.specs.Store.{Catalog, Holds, IsWriting, record_of}
 use Rattle.meaning_areas.specs.FilesArea.{files_in, files_of, written}
 use Rattle.meaning_files.specs.Commands.{refusal}
 use Rattle.meaning_files.specs.Files.{Files}
@@ -76,27 +76,30 @@ pub record IsNoStore (area : Area) (place : ℕ) (o n : Outside) : Type 0 where
 abbrev pub length_with : List (List ℕ) → List ℕ → ℕ
 length_with bodies body = size bodies + 1 + 9 + length body
 
+-- the most bytes that the area Files may have
+abbrev pub most_area : ℕ
+most_area = 1099511627776
+
 -- the next step of a script would pass the limit of the area Files
 pub record IsFullAt (script : List ℕ) (bodies : List (List ℕ)) (files : Files) (limit : ℕ) (full : Full) : Type 0 where
   pub count : ℕ
   pub cmd : FileCmd
   pub next : slice_get (script_steps script) count ≡ Some cmd
   pub accepted : refusal (files_after files (first_steps count script)) cmd ≡ None
+  pub writing : IsWriting cmd.what
   pub passes : limit < length_with (bodies ++ written files (first_steps count script)) (record_of cmd)
   pub full_is : full ≡ fulls.Area areas.Files (min (length_with (bodies ++ written files (first_steps count script)) (record_of cmd)) (2 ^ 64 - 1))
 
--- a whole run: each line is told, and the area has what all steps wrote
+-- a whole run: each line is told, the area has what all steps wrote, and no step's record would have passed the limit
 pub record IsWholeRun (script : List ℕ) (bodies : List (List ℕ)) (files : Files) (o n : Outside) : Type 0 where
   pub told : n.told ≡ extended (whole_text files script) o.told
   pub list : (bytes : List ℕ) → n.reads areas.Files ≡ Some bytes → records bytes ≡ Ok (bodies ++ written files (script_steps script))
   pub stands : (bytes : List ℕ) → n.reads areas.Files ≡ Some bytes → files_in bytes ≡ Ok (files_after files (script_steps script))
+  pub room : (full : Full) → IsFullAt script bodies files most_area full → ⊥
 
 -- the same of the lines alone, from files that are open
 pub record AreDone (script : List ℕ) (bodies : List (List ℕ)) (first last : Catalog) (o n : Outside) : Type 0 where
   pub told : n.told ≡ extended (whole_text first.files script) o.told
   pub holds : Holds last (bodies ++ written first.files (script_steps script)) n
   pub files : last.files ≡ files_after first.files (script_steps script)
-
--- the most bytes that the area Files may have
-abbrev pub most_area : ℕ
-most_area = 1099511627776
+  pub room : (full : Full) → IsFullAt script bodies first.files first.limit full → ⊥

@@ -31,6 +31,7 @@ pub fn do_line<B: Bench>(
     ensures done { OnOk result ((bodies : List (List ℕ)) → Holds store.old bodies (B.outside bench.old) → IsAfterLine number line.now bodies store.old store.new (B.outside bench.old) (B.outside bench.new)) }
     ensures limit { store.new.limit ≡ store.old.limit }
     ensures full { (full : Full) → result ≡ Err (StepFault.Full full) → IsFullLine store.old line.now full }
+    ensures room { OnOk result ((full : Full) → IsFullLine store.old line.now full → ⊥) }
     ensures faults { (B.outside bench.old).faults ≤ (B.outside bench.new).faults }
     ensures device { result ≡ Err StepFault.Device → Rose (B.outside bench.old) (B.outside bench.new) }
 {
@@ -76,6 +77,7 @@ fn answer_line<B: Bench>(
     ensures told { (B.outside bench.new).told ≡ (B.outside bench.old).told }
     ensures limit { store.new.limit ≡ store.old.limit }
     ensures full { (full : Full) → result ≡ Err (StepFault.Full full) → IsFullLine store.old line.now full }
+    ensures room { OnOk result ((full : Full) → IsFullLine store.old line.now full → ⊥) }
     ensures faults { (B.outside bench.old).faults ≤ (B.outside bench.new).faults }
     ensures device { result ≡ Err StepFault.Device → Rose (B.outside bench.old) (B.outside bench.new) }
 {
@@ -104,6 +106,7 @@ fn step<B: Bench>(bench: &mut B, store: &mut Files, cmd: FileCmd) -> Result<Answ
     ensures told { (B.outside bench.new).told ≡ (B.outside bench.old).told }
     ensures limit { store.new.limit ≡ store.old.limit }
     ensures full { (full : Full) → result ≡ Err (StepFault.Full full) → IsFullStep store.old cmd full }
+    ensures room { OnOk result ((full : Full) → IsFullStep store.old cmd full → ⊥) }
     ensures faults { (B.outside bench.old).faults ≤ (B.outside bench.new).faults }
     ensures device { result ≡ Err StepFault.Device → Rose (B.outside bench.old) (B.outside bench.new) }
 {
@@ -127,6 +130,7 @@ fn accepted<B: Bench>(bench: &mut B, store: &mut Files, cmd: FileCmd) -> Result<
     ensures told { (B.outside bench.new).told ≡ (B.outside bench.old).told }
     ensures limit { store.new.limit ≡ store.old.limit }
     ensures full { (full : Full) → result ≡ Err (StepFault.Full full) → IsFullStep store.old cmd full }
+    ensures room { OnOk result ((full : Full) → IsFullStep store.old cmd full → ⊥) }
     ensures faults { (B.outside bench.old).faults ≤ (B.outside bench.new).faults }
     ensures device { result ≡ Err StepFault.Device → Rose (B.outside bench.old) (B.outside bench.new) }
 {

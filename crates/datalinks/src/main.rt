@@ -2,6 +2,8 @@
 //! output.
 #![tactic(auto)]
 
+#[cfg(test)]
+mod crashes;
 mod folder;
 mod input;
 mod line;

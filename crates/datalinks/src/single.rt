@@ -1,11 +1,12 @@
 // A command on one thread.
-ghost use Rattle.std.specs.Prelude.{◌≡◌, ◌≤◌, ◌↔◌, ℕ, List, [], false, Some, length};
+ghost use Rattle.std.specs.Prelude.{◌≡◌, ◌≤◌, ◌↔◌, ℕ, List, [], false, true, Some, length};
 ghost use Rattle.dl_base.specs.Outside.{Moments, Pair, Rose};
 ghost use Rattle.dl_base.specs.Sources.{RoseFrom};
 ghost use Rattle.dl_base.specs.declared.area.Area.{Area};
 ghost use Rattle.dl_base.specs.declared.fault.Full.{Full};
 ghost use Rattle.meaning_files.specs.Files.{Files as FilesByPath};
 ghost use Rattle.datalinks.specs.Codes.{IsRunEnd, opening_end, step_end, script_end};
+ghost use Rattle.datalinks.specs.Complete.{IsDone, HasRoom, WasRead, WasOpened, StandsNow};
 ghost use Rattle.datalinks.specs.Run.{IsEntry, AllStand, IsInRun, IsWholeRun, IsFullAt, IsNoStore, most_area};
 ghost use Rattle.datalinks.specs.Script.{IsTooLong, most_bytes};
 ghost use Rattle.datalinks.specs.Words.{is_run};
@@ -48,6 +49,14 @@ pub fn single<S: Source, B: Bench>(
     ensures not_a_store { (area : Area) (place : ℕ) → result.0 ≡ Status.NotAStore area place → IsNoStore area place (B.outside bench) (B.outside result.1) }
     ensures full { (full : Full) → result.0 ≡ Status.Full full → (script : List ℕ) → S.rest source.old ≡ Some script → (bodies : List (List ℕ)) (files : FilesByPath) → IsEntry (B.outside bench) bodies files
         → IsFullAt script bodies files most_area full }
+
+    // A script that is too long, and an area that stands for nothing, lead to no end but their own, a fault or want of memory.
+    ensures within { WasRead result.0 → (script : List ℕ) → S.rest source.old ≡ Some script → length script ≤ most_bytes }
+    ensures stood { WasOpened result.0 → StandsNow (B.outside bench) }
+
+    // With no cause of another end, the whole script was done, or memory was wanting.
+    ensures complete { is_run words.now ≡ true → (script : List ℕ) → S.rest source.old ≡ Some script → length script ≤ most_bytes → (bodies : List (List ℕ)) (files : FilesByPath) → IsEntry (B.outside bench) bodies files
+        → HasRoom script bodies files (B.outside bench) (B.outside result.1) → (RoseFrom (S.faults source.old) (S.faults source.new) → ⊥) → IsDone result.0 }
 {
     if !is_run(words) {
         return (Status::Usage, bench);
@@ -77,6 +86,7 @@ fn run<B: Bench>(alloc: Global, mut bench: B, script: &[u8]) -> (Status, B)
     ensures device { result.0 ≡ Status.Device → Rose (B.outside bench) (B.outside result.1) }
     ensures not_a_store { (area : Area) (place : ℕ) → result.0 ≡ Status.NotAStore area place → IsNoStore area place (B.outside bench) (B.outside result.1) }
     ensures full { (full : Full) → result.0 ≡ Status.Full full → (bodies : List (List ℕ)) (files : FilesByPath) → IsEntry (B.outside bench) bodies files → IsFullAt script.now bodies files most_area full }
+    ensures stood { WasOpened result.0 → StandsNow (B.outside bench) }
 {
     match Files::begin(alloc, &mut bench, MOST_AREA) {
         Ok(mut store) => match run_lines(alloc, &mut bench, &mut store, script) {

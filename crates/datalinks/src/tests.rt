@@ -24,7 +24,7 @@ fn first_text() -> &'static [u8] {
 
 /// Blank lines, comments, CR LF, bytes that are no UTF-8, an empty content, refusals, and no newline at the end.
 fn long_script() -> &'static [u8] {
-    b"-- a note\r\n\r\n \t\n@ann create /a one\r\n@ann read /a\r\n@ann create /a x\n@ann read /b\n@ann delete /a\n\
+    b"-- a note\r\n\r\n \t\n@ann create /a one\r\n@ann read /a\r\n@ann create /a x\n@ann read /b\n@ann write /a y\n\
       @ann create /c \xff\xfe\n@bob read /c\n@ann create /d \n@ann read /d\n@ann  create /e x\n@dlfm create /e x\n\
       @ann create e x\n@ann read /a /b\nSELECT"
 }
@@ -42,6 +42,17 @@ fn damaged(which: u8) -> &'static [u8] {
         1 => b"\x01\0\0\0\0\0\0\0\x01\x07\0",
         _ => b"\x01\0\0\0\0\0\0\0\x14\x01\0\0\0\0\0\0\0\0\0\0\0\x01\0\0\0\0\x02/a\0",
     }
+}
+
+/// Each command that is built, and each of its refusals.
+fn all_commands() -> &'static [u8] {
+    b"@ann create /a one\n@ann read /a\n@ann create /a x\n@bob delete /a\n@ann delete /a\n@ann read /a\n@ann write /a y\n\
+      @bob create /a\n@bob read /a\n@bob delete /b\n"
+}
+
+fn all_answers() -> &'static [u8] {
+    b"1: ok\n2: bytes 3\n2| one\n3: refused exists /a\n4: refused not owner /a ann\n5: ok\n6: refused no file /a\n\
+      7: refused not built\n8: ok\n9: bytes 0\n9| \n10: refused no file /b\n"
 }
 
 fn bench(alloc: Global) -> Result<MemoryBench, Fail> {
@@ -83,6 +94,7 @@ fn the_first_run_and_a_second_one(rt: HostRuntime) -> Result<(), Fail> {
 #[test]
 fn lines_and_what_they_tell(rt: HostRuntime) -> Result<(), Fail> {
     let _ = tells(&rt, rt.alloc(), long_script(), long_text())?;
+    let _ = tells(&rt, rt.alloc(), all_commands(), all_answers())?;
     let _ = tells(&rt, rt.alloc(), b"", b"")?;
     Ok(())
 }

@@ -7,7 +7,7 @@ use Rattle.dl_base.specs.Name.{name_test}
 use Rattle.dl_base.specs.Path.{path_test}
 use Rattle.dl_base.specs.declared.file.FileCmd.{FileCmd}
 use Rattle.dl_base.specs.declared.file.FileWhat.{FileWhat}
-use Rattle.dl_base.specs.declared.file.FileWhat.TheVariants.{Create, Read}
+use Rattle.dl_base.specs.declared.file.FileWhat.TheVariants.{Create, Read, Delete}
 use Rattle.meaning_files.specs.Tokens.{has_token_form}
 
 -- how many bytes a line may have
@@ -33,17 +33,27 @@ is_user name = name_test name && nat_le (length name) 16 && not (pointwise ◌==
 unfoldable pub is_command_path : List ℕ → Bool
 is_command_path path = path_test path && not (has_token_form path)
 
--- what `create PATH bytes` and `read PATH` ask, one space between the words
-abbrev pub create_of : Option (List ℕ × List ℕ) → Option FileWhat
-create_of None = None
-create_of (Some p) = if is_command_path p.0 then Some (Create p.0 p.1) else None
+-- what `create PATH`, `create PATH bytes`, `read PATH` and `delete PATH` ask, one space between the words
+abbrev pub made_of : List ℕ → List ℕ → Option FileWhat
+made_of path bytes = if is_command_path path then Some (Create path bytes) else None
+
+abbrev pub create_of : List ℕ → Option (List ℕ × List ℕ) → Option FileWhat
+create_of text None = made_of text []
+create_of text (Some p) = made_of p.0 p.1
 
 abbrev pub read_of : List ℕ → Option FileWhat
 read_of path = if is_command_path path then Some (Read path None) else None
 
+abbrev pub delete_of : List ℕ → Option FileWhat
+delete_of path = if is_command_path path then Some (Delete path) else None
+
 abbrev pub what_in : Option (List ℕ × List ℕ) → Option FileWhat
 what_in None = None
-what_in (Some p) = if pointwise ◌==◌ p.0 (codes "create") then create_of (cut p.1) else if pointwise ◌==◌ p.0 (codes "read") then read_of p.1 else None
+what_in (Some p) =
+    if pointwise ◌==◌ p.0 (codes "create") then create_of p.1 (cut p.1)
+    else if pointwise ◌==◌ p.0 (codes "read") then read_of p.1
+    else if pointwise ◌==◌ p.0 (codes "delete") then delete_of p.1
+    else None
 
 -- the command of `@USER COMMAND`
 abbrev pub user_command : Option (List ℕ × List ℕ) → Option FileCmd
@@ -62,4 +72,5 @@ command_of line = if is_quiet line || nat_lt most_bytes (length line) then None 
 abbrev pub IsBuilt : FileWhat → Type 0
 IsBuilt (Create path bytes) = Unit {0}
 IsBuilt (Read path None) = Unit {0}
+IsBuilt (Delete path) = Unit {0}
 IsBuilt _ = ⊥

@@ -2,7 +2,7 @@
 ghost use Rattle.std.specs.Prelude.{◌≡◌, ◌==◌, IfOk, IfSome, true};
 ghost use Rattle.std.specs.List.{position};
 ghost use Rattle.std.specs.Option.{option_map};
-ghost use Rattle.meaning_script.specs.Lines.{cut, is_user, is_command_path, create_of, read_of, what_in, user_command, command_of, IsBuilt};
+ghost use Rattle.meaning_script.specs.Lines.{cut, is_user, is_command_path, made_of, create_of, read_of, delete_of, what_in, user_command, command_of, IsBuilt};
 
 use crate::is_quiet;
 use dl_base::{FileCmd, FileWhat, Memory, Name, Path, Text, is_name, is_path};
@@ -12,8 +12,8 @@ use std::alloc::Global;
 /// How many bytes a line may have.
 const MOST_BYTES: usize = 65_536;
 
-/// The command that a line is, if it is one of `@USER create PATH bytes` and `@USER read PATH`, with one space between
-/// the words and at most 65,536 bytes in all.
+/// The command that a line is, if it is one of `@USER create PATH`, `@USER create PATH bytes`, `@USER read PATH` and
+/// `@USER delete PATH`, with one space between the words and at most 65,536 bytes in all.
 #[tactic(auto, unfolding(meaning_script::specs::Lines::command_of))]
 pub fn command_of(alloc: Global, line: &[u8]) -> Result<Option<FileCmd>, Memory>
     ensures value { IfOk result (λ cmd. cmd ≡ command_of line.now) }
@@ -91,16 +91,26 @@ fn what_in(alloc: Global, text: &[u8]) -> Result<Option<FileWhat>, Memory>
     if verb == b"read".as_slice() {
         return read_of(alloc, rest);
     }
+    if verb == b"delete".as_slice() {
+        return delete_of(alloc, rest);
+    }
     Ok(None)
 }
 
 fn create_of(alloc: Global, text: &[u8]) -> Result<Option<FileWhat>, Memory>
-    ensures value { IfOk result (λ what. what ≡ create_of (cut text.now)) }
+    ensures value { IfOk result (λ what. what ≡ create_of text.now (cut text.now)) }
     ensures built { IfOk result (λ what. IfSome what IsBuilt) }
 {
-    let Some((path, bytes)) = cut(text) else {
-        return Ok(None);
-    };
+    match cut(text) {
+        Some((path, bytes)) => made_of(alloc, path, bytes),
+        None => made_of(alloc, text, &[]),
+    }
+}
+
+fn made_of(alloc: Global, path: &[u8], bytes: &[u8]) -> Result<Option<FileWhat>, Memory>
+    ensures value { IfOk result (λ what. what ≡ made_of path.now bytes.now) }
+    ensures built { IfOk result (λ what. IfSome what IsBuilt) }
+{
     if !is_command_path(path) {
         return Ok(None);
     }
@@ -116,6 +126,16 @@ fn read_of(alloc: Global, path: &[u8]) -> Result<Option<FileWhat>, Memory>
         return Ok(None);
     }
     Ok(Some(FileWhat::Read(command_path(alloc, path)?, None)))
+}
+
+fn delete_of(alloc: Global, path: &[u8]) -> Result<Option<FileWhat>, Memory>
+    ensures value { IfOk result (λ what. what ≡ delete_of path.now) }
+    ensures built { IfOk result (λ what. IfSome what IsBuilt) }
+{
+    if !is_command_path(path) {
+        return Ok(None);
+    }
+    Ok(Some(FileWhat::Delete(command_path(alloc, path)?)))
 }
 
 /// Whether the bytes are a path whose last name is not of the token form.

@@ -51,7 +51,13 @@ fn commands_of_lines(rt: HostRuntime) -> Result<(), Fail> {
     }
     assert!(rt; command_of(alloc, b"@ann read /a")?.is_some());
     assert!(rt; command_of(alloc, b"@ann read /a ")?.is_none());
-    assert!(rt; command_of(alloc, b"@ann create /a")?.is_none());
+    if let Some(cmd) = command_of(alloc, b"@ann create /a")? {
+        assert!(rt; is_create(&cmd, b"ann", b"/a", b""));
+    } else {
+        assert!(rt; false);
+    }
+    assert!(rt; command_of(alloc, b"@ann delete /a")?.is_some());
+    assert!(rt; command_of(alloc, b"@ann delete")?.is_none());
     assert!(rt; command_of(alloc, b"@dlfm read /a")?.is_none());
     assert!(rt; command_of(alloc, read_of_a_token())?.is_none());
     assert!(rt; command_of(alloc, read_of_no_token())?.is_some());

@@ -8,5 +8,5 @@ returns-in-Ok-run_lines-clause-whole g c _ bodies files entry =
     let n = g.B.Bench.outside c.run_lines.new.bench in
     let opened = c.in-Ok.ensures.opened in
     whole_run o bodies files entry c.args.script.now c.in-Ok.store c.run_lines.new.store m n (g.met.B.Bench.lawful c.run_lines.new.bench) c.begin.ensures.images.told
-    (store_is o bodies files entry opened.0 opened.1 c.in-Ok.store m opened.2)
+    (store_is o bodies files entry opened.0 opened.1 c.in-Ok.store m opened.2) c.in-Ok.ensures.limit
     (c.in-Ok-run_lines.ensures.done bodies (holds_entry o bodies files entry opened.0 opened.1 c.in-Ok.store m opened.2))
