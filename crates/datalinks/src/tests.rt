@@ -1,6 +1,8 @@
+use crate::folder::FolderBench;
+use crate::input::InputSource;
 use crate::single::single;
 use crate::status::Status;
-use dl_base::{Area, FileCmd, FileWhat, List, Name, Path, Text, is_name, is_path};
+use dl_base::{Area, Bench, FileCmd, FileWhat, List, Name, Path, Source, Text, is_name, is_path};
 use dl_bench::{Call, MemoryBench, MemorySource};
 use fs_files::Files;
 use std::alloc::Global;
@@ -175,5 +177,29 @@ fn files_are_looked_at_and_tested(rt: HostRuntime) -> Result<(), Fail> {
         what: FileWhat::Delete(path),
     };
     assert!(rt; files.test(&delete)?.is_none());
+    Ok(())
+}
+
+#[test]
+fn the_folder_keeps_what_is_written(rt: HostRuntime) -> Result<(), Fail> {
+    let mut bench = FolderBench::new(rt);
+    assert!(rt; bench.write(Area::Backups, 0, b"abcdef").is_ok());
+    assert!(rt; bench.write(Area::Backups, 2, b"XY").is_ok());
+    assert!(rt; bench.sync(Area::Backups).is_ok());
+    let mut again = FolderBench::new(rt);
+    assert_eq!(rt; again.length(Area::Backups).ok(), Some(6));
+    let mut into = [0; 4];
+    assert!(rt; again.read(Area::Backups, 1, &mut into).is_ok());
+    assert_eq!(rt; into.as_slice(), b"bXYe".as_slice());
+    assert!(rt; again.say(b"told").is_ok());
+    Ok(())
+}
+
+/// A test has nothing on its standard input.
+#[test]
+fn standard_input_ends(rt: HostRuntime) -> Result<(), Fail> {
+    let mut source = InputSource::new(rt);
+    let mut into = [0; 4];
+    assert_eq!(rt; source.take(&mut into).ok(), Some(0));
     Ok(())
 }
