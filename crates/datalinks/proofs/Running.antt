@@ -63,7 +63,7 @@ pub record Reached (script : List ℕ) (bodies : List (List ℕ)) (first : Catal
   pub behind : 0 < count → IsFront (script_text (count - 1) first.files script) said
   pub room : (full : Full) (f : IsFullAt script bodies first.files first.limit full) → f.count < count → ⊥
 
-extended-none : (o : Option (List ℕ)) → o ≡ extended [] o
+pub extended-none : (o : Option (List ℕ)) → o ≡ extended [] o
 extended-none None = refl
 extended-none (Some told) = ap (λ (l : List ℕ). Some l) (sym (append-nil told))
 

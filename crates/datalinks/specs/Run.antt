@@ -62,6 +62,11 @@ pub record IsOfOpening (o : Outside) (p : Pair) : Type 0 where
   pub image : IsOpening areas.Files o (p.areas areas.Files)
   pub stands : IsOk (files_in (p.areas areas.Files))
 
+-- what all areas read now, and all that was told
+pub record IsSeen (o : Outside) (p : Pair) : Type 0 where
+  pub told : o.told ≡ Some p.told
+  pub areas : (a : Area) → o.reads a ≡ Some (p.areas a)
+
 -- a crash at a moment of a run
 abbrev pub IsInRun : List ℕ → List (List ℕ) → Files → Outside → Pair → Type 0
 IsInRun script bodies files o p = IsOfOpening o p ⊎ IsAfterSteps script bodies files o.told p

@@ -21,13 +21,16 @@ use input::InputSource;
 use single::single;
 use status::Status;
 use std::env;
+use std::io::ErrorKind;
 use std::process::ExitCode;
 
-/// The words behind the program's name; none where they can't be had.
+/// The words behind the program's name; none where one of them is no UTF-8.
 fn given_words(rt: &HostRuntime) -> Result<Option<List<Text>>, Memory> {
     let mut words = List::empty(rt.alloc());
-    let Ok(args) = env::args(rt) else {
-        return Ok(None);
+    let args = match env::args(rt) {
+        Ok(args) => args,
+        Err(why) if why.kind() == ErrorKind::OutOfMemory => return Err(Memory),
+        Err(_) => return Ok(None),
     };
     for word in args.skip(1) {
         words.push(Text::of(rt.alloc(), word.as_bytes())?)?;

@@ -7,7 +7,7 @@ ghost use Rattle.dl_base.specs.declared.fault.Full.{Full};
 ghost use Rattle.meaning_files.specs.Files.{Files as FilesByPath};
 ghost use Rattle.datalinks.specs.Codes.{IsRunEnd, opening_end, step_end, script_end};
 ghost use Rattle.datalinks.specs.Complete.{IsDone, HasRoom, WasRead, WasOpened, StandsNow};
-ghost use Rattle.datalinks.specs.Run.{IsEntry, AllStand, IsInRun, IsWholeRun, IsFullAt, IsNoStore, most_area};
+ghost use Rattle.datalinks.specs.Run.{IsEntry, IsSeen, AllStand, IsAfterSteps, IsInRun, IsWholeRun, IsFullAt, IsNoStore, most_area};
 ghost use Rattle.datalinks.specs.Script.{IsTooLong, most_bytes};
 ghost use Rattle.datalinks.specs.Words.{is_run};
 
@@ -41,6 +41,10 @@ pub fn single<S: Source, B: Bench>(
     // A crash at any moment leaves the area after some of the steps, in order, and what was told does not run ahead.
     ensures history { (script : List ℕ) → S.rest source.old ≡ Some script → (bodies : List (List ℕ)) (files : FilesByPath) → IsEntry (B.outside bench) bodies files
         → AllStand (B.outside bench) → (p : Pair) → (B.outside result.1).since (B.outside bench).moment p → IsInRun script bodies files (B.outside bench) p }
+
+    // However it ends, nothing was written but the records of some of the steps, in order, and what is told shows which.
+    ensures left { (script : List ℕ) → S.rest source.old ≡ Some script → (bodies : List (List ℕ)) (files : FilesByPath) → IsEntry (B.outside bench) bodies files
+        → (p : Pair) → IsSeen (B.outside result.1) p → IsAfterSteps script bodies files (B.outside bench).told p }
 
     // Every other end has its cause.
     ensures device { result.0 ≡ Status.Device → Rose (B.outside bench) (B.outside result.1) }
@@ -83,6 +87,7 @@ fn run<B: Bench>(alloc: Global, mut bench: B, script: &[u8]) -> (Status, B)
     ensures end { IsRunEnd result.0 }
     ensures whole { result.0 ≡ Status.Done → (bodies : List (List ℕ)) (files : FilesByPath) → IsEntry (B.outside bench) bodies files → IsWholeRun script.now bodies files (B.outside bench) (B.outside result.1) }
     ensures history { (bodies : List (List ℕ)) (files : FilesByPath) → IsEntry (B.outside bench) bodies files → AllStand (B.outside bench) → Moments (IsInRun script.now bodies files (B.outside bench)) (B.outside bench) (B.outside result.1) }
+    ensures left { (bodies : List (List ℕ)) (files : FilesByPath) → IsEntry (B.outside bench) bodies files → (p : Pair) → IsSeen (B.outside result.1) p → IsAfterSteps script.now bodies files (B.outside bench).told p }
     ensures device { result.0 ≡ Status.Device → Rose (B.outside bench) (B.outside result.1) }
     ensures not_a_store { (area : Area) (place : ℕ) → result.0 ≡ Status.NotAStore area place → IsNoStore area place (B.outside bench) (B.outside result.1) }
     ensures full { (full : Full) → result.0 ≡ Status.Full full → (bodies : List (List ℕ)) (files : FilesByPath) → IsEntry (B.outside bench) bodies files → IsFullAt script.now bodies files most_area full }

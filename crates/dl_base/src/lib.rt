@@ -42,4 +42,4 @@ pub use statement::{
     TableRef,
 };
 pub use text::Text;
-pub use value::{Dl, Grid, LinkNo, Row, Value};
+pub use value::{Dl, Grid, LinkNo, LinkRow, Row, Value};

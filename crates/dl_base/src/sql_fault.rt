@@ -3,6 +3,7 @@ ghost use Rattle.std.specs.Prelude.{◌≡◌};
 ghost use Rattle.dl_base.specs.declared.sql_fault.SqlFault.TheVariants as faults;
 
 use crate::{Limit, Memory, Name};
+use std::alloc::{AllocError, AllocFailed};
 
 /// Why a text is no location of a datalink, in the order in which it is tested.
 #[derive(Clone, Copy, Debug, PartialEq, Eq)]
@@ -52,6 +53,31 @@ impl From<Memory> for SqlFault {
     ghost from_gives = { λ _ e. e ≡ faults.Memory };
 
     fn from(_: Memory) -> SqlFault {
+        SqlFault::Memory
+    }
+}
+
+impl From<AllocError> for SqlFault {
+    ghost from_gives = { λ _ e. e ≡ faults.Memory };
+
+    fn from(_: AllocError) -> SqlFault {
+        SqlFault::Memory
+    }
+}
+
+impl<T: Drop> From<AllocFailed<T>> for SqlFault {
+    ghost from_gives = { λ _ e. e ≡ faults.Memory };
+
+    fn from(_: AllocFailed<T>) -> SqlFault {
+        SqlFault::Memory
+    }
+}
+
+/// What `List::push` gives back where it finds no memory.
+impl<T: Drop> From<(T, Memory)> for SqlFault {
+    ghost from_gives = { λ _ e. e ≡ faults.Memory };
+
+    fn from(_: (T, Memory)) -> SqlFault {
         SqlFault::Memory
     }
 }

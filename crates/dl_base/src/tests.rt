@@ -1,5 +1,6 @@
 use super::*;
 use std::alloc::Global;
+use std::process::Abort;
 use std::test::*;
 
 /// A text of one byte, this often.
@@ -72,5 +73,104 @@ fn lists_texts_and_files_with_ample_memory(rt: HostRuntime) -> Result<(), Fail> 
         before: None,
     };
     assert!(rt; file.copy()?.same(&file));
+    Ok(())
+}
+
+fn path_of(rt: &impl Abort, alloc: Global, bytes: &[u8]) -> Result<Path, Memory> {
+    assert!(rt; is_path(bytes));
+    Path::of(alloc, bytes)
+}
+
+fn name_of(rt: &impl Abort, alloc: Global, bytes: &[u8]) -> Result<Name, Memory> {
+    assert!(rt; is_name(bytes));
+    Name::of(alloc, bytes)
+}
+
+/// The datalink of a film, with this link number.
+fn datalink(rt: &impl Abort, alloc: Global, k: u32) -> Result<Dl, Memory> {
+    Ok(Dl {
+        location: Text::of(alloc, b"http://fs1/a")?,
+        path: path_of(rt, alloc, b"/a")?,
+        comment: Text::of(alloc, b"reel")?,
+        link: Some(LinkNo { tx: 5, k }),
+    })
+}
+
+/// A row with a value of each kind.
+fn row(rt: &impl Abort, alloc: Global, k: u32) -> Result<Row, Memory> {
+    let mut values = List::empty(alloc);
+    values.push(Value::Null)?;
+    values.push(Value::Int(-3))?;
+    values.push(Value::Text(Text::of(alloc, b"one")?))?;
+    values.push(Value::Link(datalink(rt, alloc, k)?))?;
+    Ok(Row { values })
+}
+
+/// A copy is the same, and the other value is not.
+fn copied<T: Copied + Same>(rt: &impl Abort, value: &T, other: &T) -> Result<(), Fail> {
+    let copy = value.copy()?;
+    assert!(rt; copy.same(value));
+    assert!(rt; !copy.same(other));
+    Ok(())
+}
+
+#[test]
+fn values_and_rows_with_ample_memory(rt: HostRuntime) -> Result<(), Fail> {
+    let alloc = rt.alloc();
+    copied(&rt, &LinkNo { tx: 1, k: 2 }, &LinkNo { tx: 2, k: 1 })?;
+    copied(&rt, &datalink(&rt, alloc, 1)?, &datalink(&rt, alloc, 2)?)?;
+    copied(&rt, &row(&rt, alloc, 1)?, &row(&rt, alloc, 2)?)?;
+    copied(&rt, &Some(7u64), &None)?;
+    copied(&rt, &Some((7u8, 8u64)), &Some((7u8, 9u64)))?;
+    Ok(())
+}
+
+/// A column of whole numbers.
+fn column(rt: &impl Abort, alloc: Global, rule: ColumnRule) -> Result<Column, Memory> {
+    Ok(Column {
+        name: name_of(rt, alloc, b"x")?,
+        kind: Kind::Int,
+        rule,
+    })
+}
+
+/// A link of the film, in a column with these options.
+fn link_row(rt: &impl Abort, alloc: Global, unlink: OnUnlink) -> Result<LinkRow, Memory> {
+    let options = Options {
+        read: ReadBy::Db,
+        write: WriteBy::Blocked,
+        recovery: true,
+        unlink,
+    };
+    Ok(LinkRow {
+        link: LinkNo { tx: 5, k: 1 },
+        path: path_of(rt, alloc, b"/a")?,
+        options,
+    })
+}
+
+#[test]
+fn columns_and_links_with_ample_memory(rt: HostRuntime) -> Result<(), Fail> {
+    let alloc = rt.alloc();
+    copied(
+        &rt,
+        &column(&rt, alloc, ColumnRule::Key)?,
+        &column(&rt, alloc, ColumnRule::NotNull)?,
+    )?;
+    copied(
+        &rt,
+        &link_row(&rt, alloc, OnUnlink::Restore)?,
+        &link_row(&rt, alloc, OnUnlink::Delete)?,
+    )?;
+    let mut numbers = Vec::new(alloc);
+    numbers.push(7u8)?;
+    let list = List::from_vec(numbers);
+    assert_eq!(rt; list.len(), 1);
+    let path = path_of(&rt, alloc, b"/a")?;
+    assert!(rt; path < path_of(&rt, alloc, b"/b")?);
+    assert!(rt; path == path_of(&rt, alloc, b"/a")?);
+    let name = name_of(&rt, alloc, b"ann")?;
+    assert!(rt; name == name_of(&rt, alloc, b"ann")?);
+    assert!(rt; name != name_of(&rt, alloc, b"bob")?);
     Ok(())
 }

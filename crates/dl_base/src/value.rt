@@ -1,5 +1,5 @@
 // The values of cells.
-use crate::{Copied, List, Memory, Path, Same, Text};
+use crate::{Copied, List, Memory, Options, Path, Same, Text};
 
 /// The number of a link: the transaction that made it, and a count from 1 inside it.
 #[derive(Clone, Copy, Debug, PartialEq, Eq)]
@@ -15,6 +15,14 @@ pub struct Dl {
     pub path: Path,
     pub comment: Text,
     pub link: Option<LinkNo>,
+}
+
+/// A link: its number, the path of its file, and the options of its column.
+#[derive(Drop)]
+pub struct LinkRow {
+    pub link: LinkNo,
+    pub path: Path,
+    pub options: Options,
 }
 
 /// The value of a cell.
@@ -70,6 +78,22 @@ impl Same for Dl {
     }
 }
 
+impl Copied for LinkRow {
+    fn copy(&self) -> Result<LinkRow, Memory> {
+        Ok(LinkRow {
+            link: self.link,
+            path: self.path.copy()?,
+            options: self.options,
+        })
+    }
+}
+
+impl Same for LinkRow {
+    fn same(&self, other: &LinkRow) -> bool {
+        self.link == other.link && self.path.same(&other.path) && self.options == other.options
+    }
+}
+
 impl Copied for Value {
     fn copy(&self) -> Result<Value, Memory> {
         match self {
@@ -98,5 +122,11 @@ impl Copied for Row {
         Ok(Row {
             values: self.values.copy()?,
         })
+    }
+}
+
+impl Same for Row {
+    fn same(&self, other: &Row) -> bool {
+        self.values.same(&other.values)
     }
 }

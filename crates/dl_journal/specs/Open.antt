@@ -35,6 +35,10 @@ IsList bodies reads = (told : List ℕ) → reads ≡ Some told → records told
 abbrev pub IsNoList : ℕ → Option (List ℕ) → Type 0
 IsNoList place reads = (told : List ℕ) → reads ≡ Some told → records told ≡ Err place
 
+-- what the area reads then is the list that it read before, where both are told
+abbrev pub ReadsSameList : Option (List ℕ) → Option (List ℕ) → Type 0
+ReadsSameList before after = (told c : List ℕ) → before ≡ Some told → after ≡ Some c → records c ≡ records told
+
 -- nothing was written: the area reads as before, and a crash leaves nothing that it might not have left before
 pub record IsUnwritten (area : Area) (old new : Outside) : Type 0 where
   pub reads : new.reads area ≡ old.reads area

@@ -32,6 +32,5 @@ pub fn write_first_gate<B: Bench>(bench: &mut B, area: Area) -> Result<(), Faile
     ensures cause { OnErr result (Rose (B.outside bench.old) (B.outside bench.new)) }
 {
     bench.write(area, 0, &[0])?;
-    bench.sync(area)?;
-    Ok(())
+    bench.sync(area)
 }

@@ -1,6 +1,6 @@
 ghost use Rattle.std.specs.Prelude.{◌≡◌, ◌+◌, ◌-◌, ◌<◌, ◌≤◌, ◌^◌, ◌++◌, [], ◌∷◌, ◌↔◌, List, ℕ, min, length, Err, IfOk, IfErr, OnOk, OnErr};
 ghost use Rattle.dl_base.specs.Outside.{Touches, Rose};
-ghost use Rattle.dl_journal.specs.Open.{IsOpen, Keeps, grown, IsList, IsNoList, IsOpening, IsUnwritten, AddsOne};
+ghost use Rattle.dl_journal.specs.Open.{IsOpen, Keeps, grown, IsList, IsNoList, IsOpening, IsUnwritten, ReadsSameList, AddsOne};
 
 use crate::append::{open_gate, stage};
 use crate::begin::{read_all, write_first_gate};
@@ -50,6 +50,9 @@ impl Journal {
 
         // Where there are records, nothing was written.
         ensures unwritten { IfOk result (λ r. 0 < length r.1 → IsUnwritten area (B.outside bench.old) (B.outside bench.new)) }
+
+        // However it ends, the area reads as the list that it was.
+        ensures same_list { ReadsSameList ((B.outside bench.old).reads area) ((B.outside bench.new).reads area) }
 
         // A crash at any moment leaves what it might have left before, or the list that the area reads.
         ensures images { Touches area (IsOpening area (B.outside bench.old)) (B.outside bench.old) (B.outside bench.new) }

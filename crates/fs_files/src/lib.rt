@@ -6,3 +6,6 @@ mod store;
 mod table;
 
 pub use store::Files;
+
+#[cfg(test)]
+mod tests;

@@ -6,7 +6,7 @@ ghost use Rattle.dl_base.specs.Outside.{Touches, Rose};
 ghost use Rattle.dl_base.specs.declared.area.Area.TheVariants as areas;
 ghost use Rattle.dl_base.specs.declared.fault.Full.{Full};
 ghost use Rattle.dl_codec.specs.declared.files.FilesRecord.TheVariants.{Batch};
-ghost use Rattle.dl_journal.specs.Open.{IsList, IsOpening, IsUnwritten};
+ghost use Rattle.dl_journal.specs.Open.{IsList, IsOpening, IsUnwritten, ReadsSameList};
 ghost use Rattle.fs_files.specs.Store.{Holds, IsReady, IsWriting, StandsWithout, StandsAround, record_of, full_with, IsFullWith};
 ghost use Rattle.meaning_areas.specs.FilesArea.{files_in, with_changes, user_record, writes};
 ghost use Rattle.meaning_files.specs.Commands.{refusal, refusal_of, changed, changed_by, create_refusal, delete_refusal, read_refusal};
@@ -60,6 +60,9 @@ impl Files {
         ensures opened { IfOk result (λ f. (bodies : List (List ℕ)) × IsList bodies ((B.outside bench.old).reads areas.Files) × Holds f bodies (B.outside bench.new)) }
         ensures ready { IfOk result (λ f. IsReady f (B.outside bench.new)) }
         ensures limit { IfOk result (λ f. f.limit ≡ limit) }
+
+        // However it ends, the area reads as the list that it was.
+        ensures same_list { ReadsSameList ((B.outside bench.old).reads areas.Files) ((B.outside bench.new).reads areas.Files) }
 
         // A crash at any moment leaves what it might have left before, or the list that the area reads.
         ensures images { Touches areas.Files (IsOpening areas.Files (B.outside bench.old)) (B.outside bench.old) (B.outside bench.new) }

@@ -1,9 +1,10 @@
 use Rattle.std.proofs.Common.{◌≡◌, ◌≤◌, ℕ, List, length, Err, ap, subst, sym, ◌∙◌, arith}
-use Rattle.dl_base.specs.Outside.{Moments}
+use Rattle.dl_base.specs.Outside.{Moments, Pair}
 use Rattle.datalinks.proofs.Complete.{run_done, script_done}
+use Rattle.datalinks.proofs.Left.{left_alone}
 use Rattle.datalinks.proofs.Whole.{run_since}
 use Rattle.datalinks.specs.Complete.{IsDone}
-use Rattle.datalinks.specs.Run.{IsInRun, IsWholeRun, IsFullAt, most_area}
+use Rattle.datalinks.specs.Run.{IsInRun, IsAfterSteps, IsWholeRun, IsFullAt, most_area}
 use Rattle.datalinks.proofs.single.single.Goals as goal
 
 pub returns-in-Ok-clause-whole : goal.returns-in-Ok-clause-whole
@@ -33,3 +34,11 @@ pub returns-in-Err-clause-complete : goal.returns-in-Err-clause-complete
 returns-in-Err-clause-complete g c is script rest short bodies files entry room calm =
     subst IsDone (sym c.script_end.ensures) (script_done c.in-Err.fault script (g.S.Source.rest c.args.source.now) (g.S.Source.faults c.args.source.now) (g.S.Source.faults c.read_script.new.source) rest short calm
     (λ is. c.in-Err.ensures.cause (ap Err is)) (λ n is. c.in-Err.ensures.too_long n (ap Err is)))
+
+pub returns-in-Ok-clause-left : goal.returns-in-Ok-clause-left
+returns-in-Ok-clause-left g c script rest bodies files entry p seen =
+    let read : c.deref.result.now ≡ script = c.deref.ensures.value ∙ c.in-Ok.ensures.whole.all script rest in
+    subst (λ (s : List ℕ). IsAfterSteps s bodies files (g.B.Bench.outside c.args.bench).told p) read (c.run.ensures.left bodies files entry p seen)
+
+pub returns-in-Err-clause-left : goal.returns-in-Err-clause-left
+returns-in-Err-clause-left g c script rest bodies files entry = left_alone script (g.B.Bench.outside c.args.bench) bodies files entry

@@ -31,3 +31,15 @@ returns-then-len-lt2-clause-bodies g c = λ told is.
 pub returns-clause-bodies : goal.returns-clause-bodies
 returns-clause-bodies g c = λ told is.
     ap records (sym (c.in_ok-bytes.ensures.value told is) ∙ sym c.deref.ensures.value) ∙ records-at_rest c.in_ok-bodies.bodies _ c.in_ok-bodies.ensures.found.0
+
+pub returns-in_err-write_first_gate-clause-same_list : goal.returns-in_err-write_first_gate-clause-same_list
+returns-in_err-write_first_gate-clause-same_list g c = λ told d was is.
+    let law = g.met.B.Bench.lawful c.write_first_gate.new.bench in
+    let short : length told < 2 = omega (arith, ap length (c.in_ok-bytes.ensures.value told was), c.len.ensures) in
+    records-short d (c.write_first_gate.ensures.images.here d (law.as_it_reads c.args.area d is)).2 ∙ sym (records-short told short)
+
+pub returns-then-len-lt2-clause-same_list : goal.returns-then-len-lt2-clause-same_list
+returns-then-len-lt2-clause-same_list g c = λ told d was is.
+    let law = g.met.B.Bench.lawful c.write_first_gate.new.bench in
+    let short : length told < 2 = omega (arith, ap length (c.in_ok-bytes.ensures.value told was), c.len.ensures) in
+    records-short d (c.write_first_gate.ensures.images.here d (law.as_it_reads c.args.area d is)).2 ∙ sym (records-short told short)
