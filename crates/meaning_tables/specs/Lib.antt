@@ -1,0 +1,4 @@
+pub mod Fits
+pub mod Links
+pub mod OptionRows
+pub mod Tables
