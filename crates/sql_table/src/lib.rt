@@ -2,5 +2,7 @@
 #![tactic(auto)]
 
 mod table;
+mod tables;
 
 pub use table::{RowFault, Table};
+pub use tables::Tables;

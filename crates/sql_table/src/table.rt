@@ -1,5 +1,5 @@
 // One table.
-ghost use Rattle.std.specs.Prelude.{◌≡◌, ◌↔◌, ◌<◌, ◌^◌, Some, None, IfOk, IfErr, OnOk, OnErr, length, remove, slice_get, slice_index_or, slice_set, MatchOption};
+ghost use Rattle.std.specs.Prelude.{◌≡◌, ◌↔◌, ◌<◌, ◌^◌, Some, None, IfOk, IfErr, OnOk, OnErr, length, remove, slice_get, slice_index_or, slice_set, MatchOption, ◌+◌, ◌∷◌, [], drop};
 ghost use Rattle.std.specs.Option.{option_copied, option_map};
 ghost use Rattle.meaning_tables.specs.Tables.{Rise, row_of, with_row, without_row, new_table, with_inserted};
 ghost use Rattle.sql_table.specs.Places.{IsPlace};
@@ -107,7 +107,8 @@ impl Table {
 
     /// The row at a place from 0, with its number; None past the last. The cost does not grow with the table.
     pub fn at(&self, index: usize) -> Option<(u64, &Row)>
-        ensures { option_map (λ r. (r.0, r.1.now)) result ≡ slice_get self.now.rows index }
+        ensures value { option_map (λ r. (r.0, r.1.now)) result ≡ slice_get self.now.rows index }
+        ensures left { MatchOption result (drop index self.now.rows ≡ []) (λ r. drop index self.now.rows ≡ (r.0, r.1.now) ∷ drop (index + 1) self.now.rows) }
     {
         match self.rows.at(index) {
             Some(row) => Some((row.0, &row.1)),

@@ -1,5 +1,5 @@
 use Rattle.std.proofs.Common.{◌≡◌, subst, sym, ap, ◌∙◌, Some}
-use Rattle.meaning_tables.specs.Tables.{Rows, Rise, row_of, without_row}
+use Rattle.meaning_tables.specs.Tables.{Rows, Rise, row_of}
 use Rattle.sql_table.specs.Places.{IsPlace}
 use Rattle.sql_table.proofs.Numbers.{rise-removed, row-at, none-removed}
 use Rattle.sql_table.proofs.table.Table.remove.Goals as goal
