@@ -3,6 +3,8 @@
 
 mod table;
 mod tables;
+#[cfg(test)]
+mod tests;
 
 pub use table::{RowFault, Table};
 pub use tables::Tables;
