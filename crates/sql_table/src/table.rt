@@ -130,7 +130,7 @@ impl Table {
         }
     }
 
-    /// The row of a number. The cost grows with the logarithm of the number of rows.
+    /// The row of a number; None where no row has it. The cost grows with the logarithm of the number of rows.
     pub fn row(&self, number: u64) -> Option<&Row>
         ensures { option_copied result ≡ row_of self.now.rows number }
     {
@@ -143,8 +143,9 @@ impl Table {
         }
     }
 
-    /// Puts a row at the end and gives its number, which no row had before. An `Err` gives the row back. The cost does not grow
-    /// with the table, taken over many calls.
+    /// Puts a row at the end and gives its number, which no row had before: the table has fewer than 1,000,000 rows, and its next
+    /// row number is below 2 to the 63rd. An `Err` gives the row back. The cost does not grow with the table, taken over many
+    /// calls.
     pub fn insert(&mut self, row: Row) -> Result<u64, (Row, Memory)>
         requires few { length self.old.rows < 1000000 }
         requires small { self.old.next < 2 ^ 63 }

@@ -55,14 +55,14 @@ impl Tables {
         self.entries.get_index(index)
     }
 
-    /// The table of a name.
+    /// The table of a name; None where no table has it. It takes no memory.
     pub fn table(&self, name: &Name) -> Option<&Table>
         ensures { option_copied result ≡ table_of self.now name.now }
     {
         self.entries.get(name)
     }
 
-    /// The table of a name, for writing. The other tables stay.
+    /// The table of a name, for writing; None where no table has it. The other tables stay. It takes no memory.
     pub fn table_mut(&mut self, name: &Name) -> Option<&mut Table>
         ensures* writes_back { sem 𝓛 (LendsTable self.entry name.now result) }
         ensures value { option_copied_mut result ≡ table_of self.old name.now }
@@ -82,7 +82,7 @@ impl Tables {
         }
     }
 
-    /// Makes a table behind the others, of version 0 and without rows.
+    /// Makes a table behind the others, of version 0 and without rows, where no table has the name.
     pub fn add(&mut self, name: Name, columns: List<Column>) -> Result<(), Memory>
         requires { table_of self.old name ≡ None }
         ensures ok { OnOk result (self.new ≡ self.old ++ (name, new_table columns) ∷ []) }
@@ -92,7 +92,7 @@ impl Tables {
         Ok(())
     }
 
-    /// Takes a table away; false exactly where no table has the name.
+    /// Takes a table away; false exactly where no table has the name. It takes no memory.
     pub fn discard(&mut self, name: &Name) -> bool
         ensures found { result ≡ is_some (table_of self.old name.now) }
         ensures after { self.new ≡ without_table self.old name.now }
