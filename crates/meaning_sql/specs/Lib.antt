@@ -1,0 +1,7 @@
+pub mod Columns
+pub mod Datalinks
+pub mod Faults
+pub mod Fitting
+pub mod Operators
+pub mod Types
+pub mod Values
