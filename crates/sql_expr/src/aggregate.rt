@@ -1,0 +1,72 @@
+// What aggregates make of the values of rows, one after the other.
+ghost use Rattle.std.specs.Prelude.{◌≡◌};
+ghost use Rattle.std.specs.Ordering.{is_gt, is_lt};
+ghost use Rattle.meaning_sql.specs.Operators as meaning;
+
+use crate::number::sum;
+use crate::operator::compared;
+use crate::truth::is_null;
+use dl_base::{Fold, SqlFault, Value};
+
+/// The aggregate of the rows so far, x, and the value of one more row.
+pub(crate) fn gather(fold: Fold, x: Value, y: Value) -> Result<Value, SqlFault>
+    ensures { result ≡ meaning.gather fold x y }
+{
+    match fold {
+        Fold::Sum => added(x, y),
+        Fold::Min => Ok(least(x, y)),
+        Fold::Max => Ok(greatest(x, y)),
+    }
+}
+
+fn added(x: Value, y: Value) -> Result<Value, SqlFault>
+    ensures { result ≡ meaning.added x y }
+{
+    match x {
+        Value::Null => Ok(y),
+        Value::Int(a) => match y {
+            Value::Null => Ok(Value::Int(a)),
+            Value::Int(b) => sum(a, b),
+            Value::Text(_) => Ok(Value::Null),
+            Value::Link(_) => Ok(Value::Null),
+        },
+        Value::Text(text) => match y {
+            Value::Null => Ok(Value::Text(text)),
+            Value::Int(_) => Ok(Value::Null),
+            Value::Text(_) => Ok(Value::Null),
+            Value::Link(_) => Ok(Value::Null),
+        },
+        Value::Link(link) => match y {
+            Value::Null => Ok(Value::Link(link)),
+            Value::Int(_) => Ok(Value::Null),
+            Value::Text(_) => Ok(Value::Null),
+            Value::Link(_) => Ok(Value::Null),
+        },
+    }
+}
+
+#[tactic(auto, unfolding(meaning_sql::specs::Operators::is_null))]
+fn least(x: Value, y: Value) -> Value
+    ensures { result ≡ meaning.better is_lt x y }
+{
+    if is_null(&x) {
+        return y;
+    }
+    match compared(&y, &x) {
+        Some(o) => { if o.is_lt() { y } else { x } }
+        None => x,
+    }
+}
+
+#[tactic(auto, unfolding(meaning_sql::specs::Operators::is_null))]
+fn greatest(x: Value, y: Value) -> Value
+    ensures { result ≡ meaning.better is_gt x y }
+{
+    if is_null(&x) {
+        return y;
+    }
+    match compared(&y, &x) {
+        Some(o) => { if o.is_gt() { y } else { x } }
+        None => x,
+    }
+}

@@ -1,0 +1,17 @@
+//! The types of SQL expressions, and their values at a row (ISO/IEC 9075-2, and 9075-9 for datalinks).
+#![tactic(auto)]
+
+mod aggregate;
+mod checking;
+mod columns;
+mod datalinks;
+mod evaluation;
+mod number;
+mod operator;
+mod truth;
+mod types;
+
+pub use checking::{check, check_in};
+pub use columns::place_of;
+pub use evaluation::{evaluate, value};
+pub use meaning_sql::{Columns, Context, SqlType, Standing};
