@@ -1,2 +1,5 @@
 pub mod Equations
 pub mod Numbers
+pub mod Steps
+pub mod Typed
+pub mod Typing

@@ -6,12 +6,16 @@ mod checking;
 mod columns;
 mod datalinks;
 mod evaluation;
+mod laws;
 mod number;
 mod operator;
+#[cfg(test)]
+mod tests;
 mod truth;
 mod types;
 
 pub use checking::{check, check_in};
 pub use columns::place_of;
 pub use evaluation::{evaluate, value};
+pub use laws::values_are_of_the_type;
 pub use meaning_sql::{Columns, Context, SqlType, Standing};

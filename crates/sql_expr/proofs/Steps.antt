@@ -1,0 +1,31 @@
+-- What is known of a step that was not refused.
+use Rattle.std.proofs.Common.{◌≡◌, Bool, true, false, Result, Ok, Err, refl}
+use Rattle.dl_base.specs.declared.sql_fault.SqlFault.{SqlFault}
+use Rattle.dl_base.specs.declared.value.Value.{Value}
+use Rattle.meaning_sql.specs.declared.SqlType.{SqlType}
+use Rattle.meaning_sql.specs.Faults.{◌>>=◌, typed}
+use Rattle.meaning_sql.specs.Fitting.{IsTyped, is_of_type}
+
+-- a step and another give y: the first gives some x, of which the other gives y
+pub record Passed {A B : Type 0} (m : Result A SqlFault) (f : A → Result B SqlFault) (y : B) : Type 0 where
+  pub x : A
+  pub first : m ≡ Ok x
+  pub second : f x ≡ Ok y
+
+pub passed : {A B : Type 0} (m : Result A SqlFault) (f : A → Result B SqlFault) (y : B) → (m >>= f) ≡ Ok y → Passed m f y
+passed (Ok x) f y h = record { x = x; first = refl; second = h }
+passed (Err e) f y h = absurd (cc)
+
+pub record Held {A : Type 0} (b : Bool) (x y : A) : Type 0 where
+  pub test : b ≡ true
+  pub same : x ≡ y
+
+pub held : {A : Type 0} (b : Bool) (x y : A) → typed b x ≡ Ok y → Held b x y
+held true x y h = record { test = refl; same = cc }
+held false x y h = absurd (cc)
+
+-- a step on a value of a type, which gives values of another one
+pub then_typed : (t u : SqlType) (m : Result Value SqlFault) (f : Value → Result Value SqlFault)
+    → IsTyped t m → ((x : Value) → is_of_type t x ≡ true → IsTyped u (f x)) → IsTyped u (m >>= f)
+then_typed t u (Ok x) f h step = step x h
+then_typed t u (Err e) f h step = h
