@@ -1,0 +1,101 @@
+// The words of a command's text, one after another.
+ghost use Rattle.std.specs.Prelude.{◌≡◌, ◌≤◌, ◌<◌, ◌+◌, ◌==◌, true, not, [], ◌∷◌, length, drop, MatchResult, IfOk, Ok, Err};
+ghost use Rattle.std.specs.List.{prefix_len, slice_range};
+ghost use Rattle.std.specs.Result.{IfErr};
+ghost use Rattle.fs_command.specs.Words.{words_from, word_at};
+ghost use Rattle.fs_command.specs.Commands.{IfBad, IsPlaceIn, path, flag, is_command_path};
+
+use crate::line::CommandFault;
+use dl_base::is_path;
+use dl_token::has_token_form;
+
+/// Where a word stands: the index of its first byte, from 0, and the index behind its last.
+#[derive(Clone, Copy)]
+pub(crate) struct Span {
+    pub begin: usize,
+    pub end: usize,
+}
+
+/// The next word from an index on.
+pub(crate) fn next_word(text: &[u8], at: usize) -> Result<Span, CommandFault>
+    requires { at ≤ length text.now }
+    ensures place { IfErr result (λ e. IsPlaceIn text.now e) }
+    ensures within { IfOk result (λ s. (at ≤ s.begin) × (s.begin < s.end) × (s.end ≤ length text.now)) }
+    ensures value { MatchResult result
+        (λ s. words_from at text.now ≡ word_at text.now s.begin s.end ∷ words_from s.end text.now)
+        (λ e. (words_from at text.now ≡ []) × IfBad e (λ k. k ≡ length text.now + 1)) }
+{
+    let begin = at + spaces(&text[at..]);
+    let end = begin + word_len(&text[begin..]);
+    if begin == end {
+        return Err(CommandFault::BadCommand(text.len() as u64 + 1));
+    }
+    Ok(Span { begin, end })
+}
+
+/// The next word, which is a path.
+pub(crate) fn path_word(text: &[u8], at: usize) -> Result<Span, CommandFault>
+    requires { at ≤ length text.now }
+    ensures place { IfErr result (λ e. IsPlaceIn text.now e) }
+    ensures within { IfOk result (λ s. (at ≤ s.begin) × (s.begin < s.end) × (s.end ≤ length text.now)) }
+    ensures value { MatchResult result
+        (λ s. path (length text.now + 1) (words_from at text.now) ≡ Ok (word_at text.now s.begin s.end, words_from s.end text.now))
+        (λ e. IfBad e (λ k. path (length text.now + 1) (words_from at text.now) ≡ Err k)) }
+    ensures is_path { IfOk result (λ s. is_command_path (slice_range text.now s.begin s.end) ≡ true) }
+{
+    let word = next_word(text, at)?;
+    if !is_command_path(&text[word.begin..word.end]) {
+        return Err(misplaced(word.begin));
+    }
+    Ok(word)
+}
+
+/// The next word, which is `on` or `off`, and the index behind it.
+pub(crate) fn flag_word(text: &[u8], at: usize) -> Result<(bool, usize), CommandFault>
+    requires { at ≤ length text.now }
+    ensures place { IfErr result (λ e. IsPlaceIn text.now e) }
+    ensures within { IfOk result (λ f. f.1 ≤ length text.now) }
+    ensures value { MatchResult result
+        (λ f. flag (length text.now + 1) (words_from at text.now) ≡ Ok (f.0, words_from f.1 text.now))
+        (λ e. IfBad e (λ k. flag (length text.now + 1) (words_from at text.now) ≡ Err k)) }
+{
+    let word = next_word(text, at)?;
+    let bytes = &text[word.begin..word.end];
+    if bytes == b"on".as_slice() {
+        return Ok((true, word.end));
+    }
+    if bytes == b"off".as_slice() {
+        return Ok((false, word.end));
+    }
+    Err(misplaced(word.begin))
+}
+
+/// That the word from this index, from 0, fits nothing.
+pub(crate) fn misplaced(begin: usize) -> CommandFault
+    requires { begin < usize.MAX }
+    ensures { result ≡ CommandFault.BadCommand (begin + 1) }
+{
+    CommandFault::BadCommand(begin as u64 + 1)
+}
+
+/// Whether the bytes are a path whose last name is not of the token form.
+#[tactic(auto, unfolding(crate::specs::Commands::is_command_path))]
+fn is_command_path(bytes: &[u8]) -> bool
+    ensures { result ≡ is_command_path bytes.now }
+{
+    is_path(bytes) && !has_token_form(bytes)
+}
+
+fn spaces(bytes: &[u8]) -> usize
+    ensures value { result ≡ prefix_len (λ b. b == 32) bytes.now }
+    ensures within { result ≤ length bytes.now }
+{
+    bytes.iter().take_while(|b| **b == b' ').count()
+}
+
+fn word_len(bytes: &[u8]) -> usize
+    ensures value { result ≡ prefix_len (λ b. not (b == 32)) bytes.now }
+    ensures within { result ≤ length bytes.now }
+{
+    bytes.iter().take_while(|b| **b != b' ').count()
+}
