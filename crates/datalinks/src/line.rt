@@ -1,5 +1,5 @@
 // One line: its step, and what is told of it.
-ghost use Rattle.std.specs.Prelude.{◌≡◌, ◌≢◌, ◌≤◌, ℕ, List, ◌++◌, Some, None, Err, IfOk, OnOk};
+ghost use Rattle.std.specs.Prelude.{◌≡◌, ◌≢◌, ◌≤◌, ℕ, List, [], ◌++◌, Some, None, Err, IfOk, OnOk};
 ghost use Rattle.std.specs.FinMap as map;
 ghost use Rattle.dl_base.specs.Outside.{Moments, Says, Rose, extended};
 ghost use Rattle.dl_base.specs.declared.fault.Full.{Full};
@@ -11,9 +11,9 @@ ghost use Rattle.meaning_script.specs.Printed.{line_text};
 ghost use Rattle.meaning_script.specs.Steps.{line_answer, line_files};
 ghost use Rattle.datalinks.specs.Lines.{line_writes, IsInStep, IsInLine, IsAfterLine, IsFullStep, IsFullLine};
 
-use dl_base::{Answer, Bench, FileCmd, FileWhat, Memory, Path, Refusal, StepFault};
+use dl_base::{Answer, Bench, FileCmd, FileWhat, List, Memory, Path, Refusal, StepFault};
 use fs_files::Files;
-use run_print::line_text;
+use run_print::text;
 use run_script::{command_of, is_quiet};
 use std::alloc::Global;
 
@@ -48,13 +48,14 @@ fn tell<B: Bench>(
     number: u64,
     answer: &Answer,
 ) -> Result<(), StepFault>
-    ensures says { Says (line_text number answer.now) (B.outside bench.old) (B.outside bench.new) }
-    ensures told { OnOk result ((B.outside bench.new).told ≡ extended (line_text number answer.now) (B.outside bench.old).told) }
+    ensures says { Says (line_text [] number answer.now) (B.outside bench.old) (B.outside bench.new) }
+    ensures told { OnOk result ((B.outside bench.new).told ≡ extended (line_text [] number answer.now) (B.outside bench.old).told) }
     ensures not_full { (full : Full) → result ≢ Err (StepFault.Full full) }
     ensures faults { (B.outside bench.old).faults ≤ (B.outside bench.new).faults }
     ensures device { result ≡ Err StepFault.Device → Rose (B.outside bench.old) (B.outside bench.new) }
 {
-    let text = line_text(alloc, number, answer)?;
+    let names = List::empty(alloc);
+    let text = text(alloc, number, answer, &names)?;
     bench.say(text.bytes())?;
     Ok(())
 }

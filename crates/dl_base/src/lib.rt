@@ -17,12 +17,13 @@ mod same;
 mod source;
 mod sql_fault;
 mod statement;
+mod step;
 #[cfg(test)]
 mod tests;
 mod text;
 mod value;
 
-pub use answer::{Answer, FileRefusal, Limit, Refusal};
+pub use answer::{Answer, ClaimRefusal, FileRefusal, Limit, Lost, Refusal, RestoreRefusal, Why};
 pub use area::Area;
 pub use bench::Bench;
 pub use column::{Column, ColumnRule, Kind, OnUnlink, Options, ReadBy, WriteBy};
@@ -41,5 +42,6 @@ pub use statement::{
     ColumnDef, Expr, Fold, Integrity, Item, Key, KeyBy, KindDef, Op, Part, Ref, Select, Stmt,
     TableRef,
 };
+pub use step::{Phase, Settings, Step, Target};
 pub use text::Text;
 pub use value::{Dl, Grid, LinkNo, LinkRow, Row, Value};

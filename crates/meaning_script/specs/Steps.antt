@@ -28,10 +28,10 @@ abbrev pub line_files : Files → Option FileCmd → Files
 line_files files (Some cmd) = (file_command files cmd).1
 line_files files None = files
 
--- what is told of an answer to the line with this number, if there is one
+-- what is told of an answer to the line with this number, if there is one; none of these answers names a session
 abbrev pub told_answer : ℕ → Option Answer → List ℕ
 told_answer number None = []
-told_answer number (Some answer) = line_text number answer
+told_answer number (Some answer) = line_text [] number answer
 
 -- What is told of lines, the first of which has this number, when so many of their steps are done:
 -- the text of all lines before that of the step that comes next, or of all where none comes.
