@@ -1,0 +1,12 @@
+//! The words of the command line, read into the settings of a run.
+#![tactic(auto)]
+
+mod fault;
+mod split;
+#[cfg(test)]
+mod tests;
+mod values;
+mod words;
+
+pub use fault::WordsFault;
+pub use words::read_words;
