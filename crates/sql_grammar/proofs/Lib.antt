@@ -1,0 +1,13 @@
+pub mod Place
+pub mod Complete
+pub mod Written
+pub mod Sound
+pub mod Readers
+pub mod Many
+pub mod Whole
+pub mod Follow
+pub mod Columns
+pub mod Statements
+pub mod Printed
+pub mod Again
+pub mod Reprinted

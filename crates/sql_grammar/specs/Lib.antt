@@ -1,0 +1,14 @@
+pub mod Levels
+pub mod Words
+pub mod Cues
+pub mod Forms
+pub mod Machine
+pub mod Reserved
+pub mod Proper
+pub mod Lang
+pub mod Statements
+pub mod Reading
+pub mod Inks
+pub mod Printing
+pub mod Dots
+pub mod Meaning

@@ -1,0 +1,36 @@
+use crate::Mark;
+
+/// A word of the link options, which is a name elsewhere.
+#[derive(Clone, Copy, Debug, PartialEq, Eq)]
+pub enum LinkWord {
+    Linktype,
+    Url,
+    No,
+    Link,
+    Control,
+    File,
+    Mode,
+    Db2options,
+    Integrity,
+    All,
+    Selective,
+    None,
+    Read,
+    Permission,
+    Fs,
+    Db,
+    Write,
+    Blocked,
+    Admin,
+    Recovery,
+    Yes,
+    Unlink,
+    Restore,
+}
+
+/// What the grammar writes between its parts.
+#[derive(Clone, Copy, Debug, PartialEq, Eq)]
+pub enum Token {
+    Mark(Mark),
+    Word(LinkWord),
+}
