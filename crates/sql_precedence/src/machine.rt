@@ -1,0 +1,527 @@
+//! Expressions from terminals, over a stack of what is still open.
+
+ghost use Rattle.std.specs.Prelude.{◌≡◌, ◌∷◌, IfOk, None, Some};
+ghost use Rattle.dl_base.specs.declared.statement.Expr as expr;
+ghost use Rattle.sql_grammar.specs.Cues.{cue, cue_of, an_operator, an_is, a_close, a_comma};
+ghost use Rattle.sql_grammar.specs.Forms.{reference};
+ghost use Rattle.sql_grammar.specs.Machine.{reduced, move, ended, binds_at, applied, enclosed, need, frame_need, due, after, Go, move_after, leave, passed, call_open, callee_of};
+ghost use Rattle.sql_grammar.specs.Machine as machine;
+ghost use Rattle.sql_grammar.specs.declared.frame.Frame.TheVariants as frame;
+ghost use Rattle.sql_precedence.specs.Views.{stack_of, state_of, move_of, cue_in, asked, counting};
+
+use crate::role::{Role, left, level, right, role_of};
+use crate::word::same_bytes;
+use dl_base::{Boxed, Expr, Fold, Memory, Name, Op, Part, Ref};
+use sql_grammar::{Callee, Frame, Mark, Opening, Terminal};
+use std::alloc::Global;
+
+/// Operators and calls of one expression.
+pub const MAX_OPERATORS: u32 = 255;
+
+/// Parentheses that are open at once.
+pub const MAX_OPEN: u32 = 256;
+
+// How tightly an operand without operators binds.
+const TIGHTEST: u8 = 7;
+
+/// What is still open, with the operators so far and the open parentheses.
+#[derive(Drop)]
+pub struct Stack {
+    pub frames: Vec<Frame>,
+    pub operators: u32,
+    pub parentheses: u32,
+}
+
+/// What is due, or has been read.
+#[derive(Drop)]
+pub enum Reading {
+    /// An operand.
+    Due(Stack),
+    /// An operand has been read, which binds as tightly as the level.
+    After(Stack, Expr, u8),
+    /// A word has been read, which is a column, a table or a function.
+    Named(Stack, Name),
+    /// Behind a table and a dot.
+    Dotted(Stack, Name),
+    /// Behind IS.
+    IsDue(Stack, Expr),
+    /// Behind IS NOT.
+    NotDue(Stack, Expr),
+    /// Behind COUNT and its parenthesis.
+    StarDue(Stack),
+    /// Behind the `*` of COUNT.
+    StarRead(Stack),
+}
+
+/// A terminal is taken, or ends the expression before it, or is refused.
+#[derive(Drop)]
+pub enum Step {
+    Go(Reading),
+    Stop(Expr),
+    Refuse,
+}
+
+// Whether a frame binds the operand after it at least as tightly as `low`.
+fn binds(frame: &Frame, low: u8) -> bool
+    ensures { result ≡ binds_at low frame.now }
+{
+    match frame {
+        Frame::Opened(_) => false,
+        Frame::Negation => low <= 2,
+        Frame::Sign => low <= 6,
+        Frame::Infix(op, _) => low <= level(*op),
+    }
+}
+
+// Two operands in boxes.
+fn boxed(alloc: Global, first: Expr, second: Expr) -> Result<(Boxed<Expr>, Boxed<Expr>), Memory>
+    ensures { IfOk result (λ r. (r.0 ≡ first) × (r.1 ≡ second)) }
+{
+    let first = Boxed::new(alloc, first)?;
+    Ok((first, Boxed::new(alloc, second)?))
+}
+
+// What a parenthesis that closes makes of the operand before it.
+fn enclosed(alloc: Global, opening: Opening, last: Expr) -> Result<Expr, Memory>
+    ensures { IfOk result (λ e. e ≡ enclosed opening last) }
+{
+    match opening {
+        Opening::Group => Ok(last),
+        Opening::Aggregate(fold) => Ok(Expr::Aggregate(fold, Boxed::new(alloc, last)?)),
+        Opening::Access(part) => Ok(Expr::Access(part, Boxed::new(alloc, last)?)),
+        Opening::Dlvalue1 => Ok(Expr::Dlvalue1(Boxed::new(alloc, last)?)),
+        Opening::Dlvalue2(first) => {
+            let (first, last) = boxed(alloc, first, last)?;
+            Ok(Expr::Dlvalue2(first, last))
+        }
+        Opening::Dlvalue3(first, second) => dlvalue3(alloc, first, second, last),
+    }
+}
+
+fn dlvalue3(alloc: Global, first: Expr, second: Expr, third: Expr) -> Result<Expr, Memory>
+    ensures { IfOk result (λ e. e ≡ expr.Dlvalue3 first second third) }
+{
+    let (first, second) = boxed(alloc, first, second)?;
+    Ok(Expr::Dlvalue3(first, second, Boxed::new(alloc, third)?))
+}
+
+// What a frame makes of the operand after it.
+fn applied(alloc: Global, frame: Frame, last: Expr) -> Result<Expr, Memory>
+    ensures { IfOk result (λ e. e ≡ applied frame last) }
+{
+    match frame {
+        Frame::Opened(opening) => enclosed(alloc, opening, last),
+        Frame::Negation => Ok(Expr::Not(Boxed::new(alloc, last)?)),
+        Frame::Sign => Ok(Expr::Minus(Boxed::new(alloc, last)?)),
+        Frame::Infix(op, before) => {
+            let (before, last) = boxed(alloc, before, last)?;
+            Ok(Expr::Binary(op, before, last))
+        }
+    }
+}
+
+// Applies what binds at least as tightly as `low`.
+#[tactic(auto, using(crate::proofs::Stacks::stack_push))]
+fn reduce(alloc: Global, frames: &mut Vec<Frame>, low: u8, last: Expr) -> Result<Expr, Memory>
+    ensures { IfOk result (λ e. reduced low (stack_of frames.old.items) last ≡ (stack_of frames.new.items, e)) }
+{
+    let mut value = last;
+    while let Some(frame) = frames.pop() {
+        if !binds(&frame, low) {
+            frames.push(frame)?;
+            break;
+        }
+        value = applied(alloc, frame, value)?;
+    }
+    Ok(value)
+}
+
+// What is still open and the operand behind it are let go.
+fn refuse(_stack: Stack, _last: Expr) -> Result<Step, Memory>
+    ensures { IfOk result (λ s. move_of s ≡ machine.Refuse) }
+{
+    Ok(Step::Refuse)
+}
+
+// One more frame.
+#[tactic(auto, using(crate::proofs::Stacks::stack_push))]
+fn push(mut stack: Stack, frame: Frame) -> Result<Step, Memory>
+    ensures { IfOk result (λ s. move_of s ≡ Go (due (frame ∷ stack_of stack.frames.items) stack.operators stack.parentheses)) }
+{
+    stack.frames.push(frame)?;
+    Ok(Step::Go(Reading::Due(stack)))
+}
+
+// How tightly the operand after a frame binds at least.
+fn frame_need(frame: &Frame) -> u8
+    ensures { result ≡ frame_need frame.now }
+{
+    match frame {
+        Frame::Opened(_) => 0,
+        Frame::Negation => 2,
+        Frame::Sign => 6,
+        Frame::Infix(op, _) => right(*op),
+    }
+}
+
+// How tightly an operand on the stack binds at least.
+#[tactic(auto, using(crate::proofs::Stacks::need_last))]
+fn need(frames: &[Frame]) -> u8
+    ensures { result ≡ need (stack_of frames.now) }
+{
+    match frames.last() {
+        None => 0,
+        Some(frame) => frame_need(frame),
+    }
+}
+
+// A mark where an operand is due.
+fn marked(mut stack: Stack, mark: Mark) -> Result<Step, Memory>
+    ensures { IfOk result (λ s. move_of s
+        ≡ move (due (stack_of stack.frames.items) stack.operators stack.parentheses) (cue_of mark)) }
+{
+    match role_of(mark) {
+        Role::Operator(Op::Sub) if stack.operators < MAX_OPERATORS => {
+            stack.operators += 1;
+            push(stack, Frame::Sign)
+        }
+        Role::Not if need(&stack.frames) <= 2 && stack.operators < MAX_OPERATORS => {
+            stack.operators += 1;
+            push(stack, Frame::Negation)
+        }
+        Role::Open if stack.parentheses < MAX_OPEN => {
+            stack.parentheses += 1;
+            push(stack, Frame::Opened(Opening::Group))
+        }
+        Role::Null => Ok(Step::Go(Reading::After(stack, Expr::Null, TIGHTEST))),
+        _ => Ok(Step::Refuse),
+    }
+}
+
+// A terminal where an operand is due.
+fn operand(stack: Stack, terminal: &Terminal) -> Result<Step, Memory>
+    ensures { IfOk result (λ s. move_of s
+        ≡ move (due (stack_of stack.frames.items) stack.operators stack.parentheses) (cue terminal.now)) }
+{
+    match terminal {
+        Terminal::Fixed(mark) => marked(stack, *mark),
+        Terminal::Number(n) => Ok(Step::Go(Reading::After(stack, Expr::Number(*n), TIGHTEST))),
+        Terminal::Literal(text) => {
+            let text = text.copy()?;
+            Ok(Step::Go(Reading::After(stack, Expr::Literal(text), TIGHTEST)))
+        }
+        Terminal::Word(name) => {
+            let name = name.copy()?;
+            Ok(Step::Go(Reading::Named(stack, name)))
+        }
+    }
+}
+
+// An operator after an operand that binds as tightly as `bound`.
+fn operator(alloc: Global, mut stack: Stack, last: Expr, bound: u8, op: Op) -> Result<Step, Memory>
+    ensures { IfOk result (λ s. move_of s
+        ≡ move_after (stack_of stack.frames.items) last bound stack.operators stack.parentheses (an_operator op)) }
+{
+    let value = reduce(alloc, &mut stack.frames, left(op), last)?;
+    if left(op) <= bound && need(&stack.frames) <= level(op) && stack.operators < MAX_OPERATORS {
+        stack.operators += 1;
+        push(stack, Frame::Infix(op, value))
+    } else {
+        Ok(Step::Refuse)
+    }
+}
+
+// IS after an operand that binds as tightly as `bound`.
+fn ask(alloc: Global, mut stack: Stack, last: Expr, bound: u8) -> Result<Step, Memory>
+    ensures { IfOk result (λ s. move_of s
+        ≡ move_after (stack_of stack.frames.items) last bound stack.operators stack.parentheses an_is) }
+{
+    let value = reduce(alloc, &mut stack.frames, 4, last)?;
+    if bound >= 4 && need(&stack.frames) <= 3 && stack.operators < MAX_OPERATORS {
+        stack.operators += 1;
+        Ok(Step::Go(Reading::IsDue(stack, value)))
+    } else {
+        Ok(Step::Refuse)
+    }
+}
+
+// A parenthesis that closes.
+#[tactic(auto, using(crate::proofs::Stacks::stack_push))]
+fn close(alloc: Global, mut stack: Stack, last: Expr, bound: u8) -> Result<Step, Memory>
+    ensures { IfOk result (λ s. move_of s
+        ≡ move_after (stack_of stack.frames.items) last bound stack.operators stack.parentheses a_close) }
+{
+    let value = reduce(alloc, &mut stack.frames, 0, last)?;
+    if stack.parentheses == 0 {
+        return Ok(Step::Stop(value));
+    }
+    let Some(frame) = stack.frames.pop() else {
+        return Ok(Step::Refuse);
+    };
+    match frame {
+        Frame::Opened(opening) => {
+            stack.parentheses -= 1;
+            let value = enclosed(alloc, opening, value)?;
+            Ok(Step::Go(Reading::After(stack, value, TIGHTEST)))
+        }
+        Frame::Negation => refuse(stack, value),
+        Frame::Sign => refuse(stack, value),
+        Frame::Infix(_, _) => refuse(stack, value),
+    }
+}
+
+// One more argument of DLVALUE, behind what has been opened.
+fn argument(stack: Stack, opening: Opening, value: Expr) -> Result<Step, Memory>
+    ensures { IfOk result (λ s. move_of s
+        ≡ passed (frame.Opened opening ∷ stack_of stack.frames.items) value stack.operators stack.parentheses) }
+{
+    match opening {
+        Opening::Dlvalue1 => push(stack, Frame::Opened(Opening::Dlvalue2(value))),
+        Opening::Dlvalue2(first) => push(stack, Frame::Opened(Opening::Dlvalue3(first, value))),
+        Opening::Group => refuse(stack, value),
+        Opening::Aggregate(_) => refuse(stack, value),
+        Opening::Access(_) => refuse(stack, value),
+        Opening::Dlvalue3(_, _) => refuse(stack, value),
+    }
+}
+
+// A comma.
+#[tactic(auto, using(crate::proofs::Stacks::stack_push))]
+fn pass(alloc: Global, mut stack: Stack, last: Expr, bound: u8) -> Result<Step, Memory>
+    ensures { IfOk result (λ s. move_of s
+        ≡ move_after (stack_of stack.frames.items) last bound stack.operators stack.parentheses a_comma) }
+{
+    let value = reduce(alloc, &mut stack.frames, 0, last)?;
+    if stack.parentheses == 0 {
+        return Ok(Step::Stop(value));
+    }
+    let Some(frame) = stack.frames.pop() else {
+        return Ok(Step::Refuse);
+    };
+    match frame {
+        Frame::Opened(opening) => argument(stack, opening, value),
+        Frame::Negation => refuse(stack, value),
+        Frame::Sign => refuse(stack, value),
+        Frame::Infix(_, _) => refuse(stack, value),
+    }
+}
+
+// What goes on with no operand, or the end.
+fn leave(alloc: Global, mut stack: Stack, last: Expr) -> Result<Step, Memory>
+    ensures { IfOk result (λ s. move_of s ≡ leave (reduced 0 (stack_of stack.frames.items) last) stack.parentheses) }
+{
+    let value = reduce(alloc, &mut stack.frames, 0, last)?;
+    if stack.parentheses == 0 {
+        Ok(Step::Stop(value))
+    } else {
+        Ok(Step::Refuse)
+    }
+}
+
+// A terminal after an operand that binds as tightly as `bound`.
+fn behind(
+    alloc: Global,
+    stack: Stack,
+    last: Expr,
+    bound: u8,
+    terminal: &Terminal,
+) -> Result<Step, Memory>
+    ensures { IfOk result (λ s. move_of s
+        ≡ move_after (stack_of stack.frames.items) last bound stack.operators stack.parentheses (cue terminal.now)) }
+{
+    match terminal {
+        Terminal::Fixed(mark) => match role_of(*mark) {
+            Role::Operator(op) => operator(alloc, stack, last, bound, op),
+            Role::Is => ask(alloc, stack, last, bound),
+            Role::Close => close(alloc, stack, last, bound),
+            Role::Comma => pass(alloc, stack, last, bound),
+            Role::Not | Role::Null | Role::Open | Role::Dot | Role::Other => leave(
+                alloc, stack, last,
+            ),
+        },
+        Terminal::Number(_) => leave(alloc, stack, last),
+        Terminal::Literal(_) => leave(alloc, stack, last),
+        Terminal::Word(_) => leave(alloc, stack, last),
+    }
+}
+
+// What a name before a parenthesis calls.
+fn callee(name: &[u8]) -> Option<Callee>
+    ensures { result ≡ callee_of name.now }
+{
+    if same_bytes(name, b"count") {
+        Some(Callee::Count)
+    } else if same_bytes(name, b"sum") {
+        Some(Callee::Opens(Opening::Aggregate(Fold::Sum)))
+    } else if same_bytes(name, b"min") {
+        Some(Callee::Opens(Opening::Aggregate(Fold::Min)))
+    } else if same_bytes(name, b"max") {
+        Some(Callee::Opens(Opening::Aggregate(Fold::Max)))
+    } else if same_bytes(name, b"dlvalue") {
+        Some(Callee::Opens(Opening::Dlvalue1))
+    } else if same_bytes(name, b"dlcomment") {
+        Some(Callee::Opens(Opening::Access(Part::Comment)))
+    } else if same_bytes(name, b"dllinktype") {
+        Some(Callee::Opens(Opening::Access(Part::LinkType)))
+    } else if same_bytes(name, b"dlurlscheme") {
+        Some(Callee::Opens(Opening::Access(Part::Scheme)))
+    } else if same_bytes(name, b"dlurlserver") {
+        Some(Callee::Opens(Opening::Access(Part::Server)))
+    } else if same_bytes(name, b"dlurlpathonly") {
+        Some(Callee::Opens(Opening::Access(Part::PathOnly)))
+    } else if same_bytes(name, b"dlurlpath") {
+        Some(Callee::Opens(Opening::Access(Part::Path)))
+    } else if same_bytes(name, b"dlurlcomplete") {
+        Some(Callee::Opens(Opening::Access(Part::Complete)))
+    } else {
+        None
+    }
+}
+
+// The column of a name.
+fn column(table: Option<Name>, column: Name) -> Expr
+    ensures { result ≡ expr.Column (reference table column) }
+{
+    Expr::Column(Ref { table, column })
+}
+
+// A parenthesis behind a word.
+fn call(alloc: Global, mut stack: Stack, name: Name) -> Result<Step, Memory>
+    ensures { IfOk result (λ s. move_of s
+        ≡ call_open (callee_of name) (stack_of stack.frames.items) name stack.operators stack.parentheses) }
+{
+    let Some(callee) = callee(name.bytes()) else {
+        return leave(alloc, stack, column(None, name));
+    };
+    match callee {
+        Callee::Count => {
+            if stack.operators < MAX_OPERATORS && stack.parentheses < MAX_OPEN {
+                stack.operators += 1;
+                Ok(Step::Go(Reading::StarDue(stack)))
+            } else {
+                Ok(Step::Refuse)
+            }
+        }
+        Callee::Opens(opening) => {
+            if stack.operators < MAX_OPERATORS && stack.parentheses < MAX_OPEN {
+                stack.operators += 1;
+                stack.parentheses += 1;
+                push(stack, Frame::Opened(opening))
+            } else {
+                Ok(Step::Refuse)
+            }
+        }
+    }
+}
+
+// A terminal behind a word.
+fn named(alloc: Global, stack: Stack, name: Name, terminal: &Terminal) -> Result<Step, Memory>
+    ensures { IfOk result (λ s. move_of s
+        ≡ move (machine.named (stack_of stack.frames.items) name stack.operators stack.parentheses) (cue terminal.now)) }
+{
+    match terminal {
+        Terminal::Fixed(mark) => match role_of(*mark) {
+            Role::Open => call(alloc, stack, name),
+            Role::Dot => Ok(Step::Go(Reading::Dotted(stack, name))),
+            Role::Operator(_)
+            | Role::Not
+            | Role::Is
+            | Role::Null
+            | Role::Close
+            | Role::Comma
+            | Role::Other => { behind(alloc, stack, column(None, name), TIGHTEST, terminal) }
+        },
+        Terminal::Number(_) => behind(alloc, stack, column(None, name), TIGHTEST, terminal),
+        Terminal::Literal(_) => behind(alloc, stack, column(None, name), TIGHTEST, terminal),
+        Terminal::Word(_) => behind(alloc, stack, column(None, name), TIGHTEST, terminal),
+    }
+}
+
+// A terminal behind IS or IS NOT.
+fn answer(
+    alloc: Global,
+    stack: Stack,
+    last: Expr,
+    holds: bool,
+    terminal: &Terminal,
+) -> Result<Step, Memory>
+    ensures { IfOk result (λ s. move_of s
+        ≡ move (asked holds (stack_of stack.frames.items) last stack.operators stack.parentheses) (cue terminal.now)) }
+{
+    match terminal {
+        Terminal::Fixed(mark) => match role_of(*mark) {
+            Role::Null => {
+                let value = Expr::IsNull(Boxed::new(alloc, last)?, holds);
+                Ok(Step::Go(Reading::After(stack, value, 3)))
+            }
+            Role::Not if holds => Ok(Step::Go(Reading::NotDue(stack, last))),
+            _ => refuse(stack, last),
+        },
+        Terminal::Number(_) => refuse(stack, last),
+        Terminal::Literal(_) => refuse(stack, last),
+        Terminal::Word(_) => refuse(stack, last),
+    }
+}
+
+// A terminal behind COUNT and its parenthesis, or behind its `*`.
+fn count(stack: Stack, star: bool, terminal: &Terminal) -> Result<Step, Memory>
+    ensures { IfOk result (λ s. move_of s
+        ≡ move (counting star (stack_of stack.frames.items) stack.operators stack.parentheses) (cue terminal.now)) }
+{
+    match terminal {
+        Terminal::Fixed(mark) => match role_of(*mark) {
+            Role::Operator(Op::Mul) if !star => Ok(Step::Go(Reading::StarRead(stack))),
+            Role::Close if star => Ok(Step::Go(Reading::After(stack, Expr::CountAll, TIGHTEST))),
+            _ => Ok(Step::Refuse),
+        },
+        Terminal::Number(_) => Ok(Step::Refuse),
+        Terminal::Literal(_) => Ok(Step::Refuse),
+        Terminal::Word(_) => Ok(Step::Refuse),
+    }
+}
+
+// A terminal behind a table and a dot.
+fn dotted(stack: Stack, table: Name, terminal: &Terminal) -> Result<Step, Memory>
+    ensures { IfOk result (λ s. move_of s
+        ≡ move (machine.dotted (stack_of stack.frames.items) table stack.operators stack.parentheses) (cue terminal.now)) }
+{
+    match terminal {
+        Terminal::Fixed(mark) => match role_of(*mark) {
+            _ => Ok(Step::Refuse),
+        },
+        Terminal::Number(_) => Ok(Step::Refuse),
+        Terminal::Literal(_) => Ok(Step::Refuse),
+        Terminal::Word(name) => {
+            let name = name.copy()?;
+            let value = column(Some(table), name);
+            Ok(Step::Go(Reading::After(stack, value, TIGHTEST)))
+        }
+    }
+}
+
+/// The next terminal.
+pub fn take(alloc: Global, reading: Reading, terminal: &Terminal) -> Result<Step, Memory>
+    ensures { IfOk result (λ s. move_of s ≡ move (state_of reading) (cue terminal.now)) }
+{
+    match reading {
+        Reading::Due(stack) => operand(stack, terminal),
+        Reading::After(stack, last, bound) => behind(alloc, stack, last, bound, terminal),
+        Reading::Named(stack, name) => named(alloc, stack, name, terminal),
+        Reading::Dotted(stack, table) => dotted(stack, table, terminal),
+        Reading::IsDue(stack, last) => answer(alloc, stack, last, true, terminal),
+        Reading::NotDue(stack, last) => answer(alloc, stack, last, false, terminal),
+        Reading::StarDue(stack) => count(stack, false, terminal),
+        Reading::StarRead(stack) => count(stack, true, terminal),
+    }
+}
+
+/// The end of the text.
+pub fn end(alloc: Global, reading: Reading) -> Result<Step, Memory>
+    ensures { IfOk result (λ s. move_of s ≡ ended (state_of reading)) }
+{
+    match reading {
+        Reading::After(stack, last, _) => leave(alloc, stack, last),
+        Reading::Named(stack, name) => leave(alloc, stack, column(None, name)),
+        _ => Ok(Step::Refuse),
+    }
+}
