@@ -1,0 +1,4 @@
+pub mod Loops
+pub mod Sources
+pub mod Parsed
+pub mod Places

@@ -1,0 +1,14 @@
+//! Statements of SQL from text, and as text.
+#![tactic(auto)]
+
+mod changes;
+mod columns;
+mod parser;
+mod part;
+mod query;
+mod sentence;
+#[cfg(test)]
+mod tests;
+
+pub use parser::{ParseFault, parse};
+pub use sql_print::{print, print_again};

@@ -1,0 +1,211 @@
+// Statements from text.
+ghost use Rattle.std.specs.Prelude.{◌≡◌, Result, ◌+◌, ◌≤◌, IfOk, length, slice_get};
+ghost use Rattle.dl_base.specs.declared.statement.Stmt.{Stmt as Tree};
+ghost use Rattle.sql_grammar.specs.Proper.{terminal, reserved_mark, sign_mark};
+ghost use Rattle.sql_grammar.specs.Lang.{whole_at};
+ghost use Rattle.sql_grammar.specs.Meaning.{terminals};
+ghost use Rattle.sql_grammar.specs.Reading.{statement_at};
+ghost use Rattle.sql_syntax.specs.declared.parser.ParseFault.{ParseFault as Fault};
+ghost use Rattle.sql_syntax.specs.declared.parser.ParseFault.TheVariants as fault;
+ghost use Rattle.sql_syntax.specs.Parsing.{begins_of, or_end, Parses, Agrees, Shown};
+
+use crate::sentence::whole;
+use dl_base::{List, Memory, Stmt};
+use sql_grammar::{Mark, Terminal};
+use sql_lex::{LexFault, LexKind, Lexeme, lex};
+use sql_precedence::{Refused, same_bytes};
+use std::alloc::Global;
+use thiserror::Error;
+
+/// Why a text is no statement.
+#[derive(Clone, Copy, Debug, PartialEq, Eq, Error)]
+pub enum ParseFault {
+    /// The place, from 1, of the first byte that begins no lexeme.
+    #[error("no lexeme begins at byte {0}")]
+    BadChar(u64),
+    /// The place, from 1, of the first lexeme with which the lexemes so far begin no statement, or one past the text's
+    /// last byte.
+    #[error("no statement goes on so at byte {0}")]
+    Syntax(u64),
+    #[error("no memory")]
+    Memory,
+}
+
+impl From<Memory> for ParseFault {
+    ghost from_gives = { λ _ e. e ≡ fault.Memory };
+
+    fn from(_: Memory) -> ParseFault {
+        ParseFault::Memory
+    }
+}
+
+// The mark of a reserved word.
+#[tactic(auto, unfolding(sql_grammar::specs::Proper::reserved_mark))]
+fn reserved(word: &[u8]) -> Option<Mark>
+    ensures { result ≡ reserved_mark word.now }
+{
+    if same_bytes(word, b"and") {
+        Some(Mark::And)
+    } else if same_bytes(word, b"as") {
+        Some(Mark::As)
+    } else if same_bytes(word, b"asc") {
+        Some(Mark::Asc)
+    } else if same_bytes(word, b"begin") {
+        Some(Mark::Begin)
+    } else if same_bytes(word, b"bigint") {
+        Some(Mark::Bigint)
+    } else if same_bytes(word, b"by") {
+        Some(Mark::By)
+    } else if same_bytes(word, b"commit") {
+        Some(Mark::Commit)
+    } else if same_bytes(word, b"create") {
+        Some(Mark::Create)
+    } else if same_bytes(word, b"datalink") {
+        Some(Mark::Datalink)
+    } else if same_bytes(word, b"delete") {
+        Some(Mark::Delete)
+    } else if same_bytes(word, b"desc") {
+        Some(Mark::Desc)
+    } else if same_bytes(word, b"drop") {
+        Some(Mark::Drop)
+    } else if same_bytes(word, b"from") {
+        Some(Mark::From)
+    } else if same_bytes(word, b"group") {
+        Some(Mark::Group)
+    } else if same_bytes(word, b"inner") {
+        Some(Mark::Inner)
+    } else if same_bytes(word, b"insert") {
+        Some(Mark::Insert)
+    } else if same_bytes(word, b"integer") {
+        Some(Mark::Integer)
+    } else if same_bytes(word, b"into") {
+        Some(Mark::Into)
+    } else if same_bytes(word, b"is") {
+        Some(Mark::Is)
+    } else if same_bytes(word, b"join") {
+        Some(Mark::Join)
+    } else if same_bytes(word, b"key") {
+        Some(Mark::Key)
+    } else if same_bytes(word, b"not") {
+        Some(Mark::Not)
+    } else if same_bytes(word, b"null") {
+        Some(Mark::Null)
+    } else if same_bytes(word, b"on") {
+        Some(Mark::On)
+    } else if same_bytes(word, b"or") {
+        Some(Mark::Or)
+    } else if same_bytes(word, b"order") {
+        Some(Mark::Order)
+    } else if same_bytes(word, b"primary") {
+        Some(Mark::Primary)
+    } else if same_bytes(word, b"rollback") {
+        Some(Mark::Rollback)
+    } else if same_bytes(word, b"select") {
+        Some(Mark::Select)
+    } else if same_bytes(word, b"set") {
+        Some(Mark::Set)
+    } else if same_bytes(word, b"table") {
+        Some(Mark::Table)
+    } else if same_bytes(word, b"update") {
+        Some(Mark::Update)
+    } else if same_bytes(word, b"values") {
+        Some(Mark::Values)
+    } else if same_bytes(word, b"varchar") {
+        Some(Mark::Varchar)
+    } else if same_bytes(word, b"where") {
+        Some(Mark::Where)
+    } else {
+        None
+    }
+}
+
+// The mark of a sign, by its place in the lexer's list.
+fn sign(place: u8) -> Mark
+    ensures { result ≡ sign_mark place }
+{
+    match place {
+        0 => Mark::Open,
+        1 => Mark::Close,
+        2 => Mark::Comma,
+        3 => Mark::Dot,
+        4 => Mark::Semicolon,
+        5 => Mark::Star,
+        6 => Mark::Plus,
+        7 => Mark::Minus,
+        8 => Mark::Slash,
+        9 => Mark::Equal,
+        10 => Mark::Unequal,
+        11 => Mark::Less,
+        12 => Mark::LessEqual,
+        13 => Mark::Greater,
+        _ => Mark::GreaterEqual,
+    }
+}
+
+// A lexeme as the grammar sees it.
+fn terminal(kind: LexKind) -> Terminal
+    ensures { result ≡ terminal kind }
+{
+    match kind {
+        LexKind::Word(word) => match reserved(word.bytes()) {
+            Some(mark) => Terminal::Fixed(mark),
+            None => Terminal::Word(word),
+        },
+        LexKind::Number(n) => Terminal::Number(n),
+        LexKind::Literal(text) => Terminal::Literal(text),
+        LexKind::Sign(place) => Terminal::Fixed(sign(place)),
+    }
+}
+
+// Lexemes as the grammar sees them, and where each begins. The lexemes are let go, and their words and literals kept.
+fn terminals(alloc: Global, lexemes: List<Lexeme>) -> Result<(List<Terminal>, List<u64>), Memory>
+    ensures { IfOk result (λ r. (r.0 ≡ terminals lexemes) × (r.1 ≡ begins_of lexemes)) }
+{
+    let mut list = List::empty(alloc);
+    let mut begins = List::empty(alloc);
+    'lexemes: for lexeme in lexemes.into_vec() {
+        let Lexeme { kind, begin, .. } = lexeme;
+        list.push(terminal(kind))?;
+        begins.push(begin)?;
+    }
+    Ok((list, begins))
+}
+
+// Where a lexeme begins, or one past the text's last byte.
+fn place(text: &[u8], begins: &[u64], number: usize) -> u64
+    ensures { result ≡ or_end (slice_get begins.now number) (length text.now + 1) }
+{
+    match begins.get(number) {
+        Some(begin) => *begin,
+        None => text.len() as u64 + 1,
+    }
+}
+
+// The statement of the lexemes of a text.
+#[tactic(auto, using(crate::proofs::Places::place_of))]
+fn read(alloc: Global, text: &[u8], lexemes: List<Lexeme>) -> Result<Stmt, ParseFault>
+    ensures { Shown text.now lexemes result (whole_at statement_at (terminals lexemes)) }
+{
+    let (terminals, begins) = terminals(alloc, lexemes)?;
+    match whole(alloc, terminals.as_slice()) {
+        Ok(stmt) => Ok(stmt),
+        Err(Refused::Syntax(number)) => {
+            Err(ParseFault::Syntax(place(text, begins.as_slice(), number)))
+        }
+        Err(Refused::Memory) => Err(ParseFault::Memory),
+    }
+}
+
+/// The statement that a text is. Its lexemes are asked first: a `BadChar` comes before any `Syntax`.
+pub fn parse(alloc: Global, text: &[u8]) -> Result<Stmt, ParseFault>
+    // It answers what the grammar does.
+    ensures exact { Parses text.now result }
+    // And nothing else is what the grammar answers, unless memory runs out.
+    ensures only { (r : Result Tree Fault) → Parses text.now r → Agrees result r }
+{
+    match lex(alloc, text) {
+        Ok(lexemes) => read(alloc, text, lexemes),
+        Err(LexFault::BadChar(place)) => Err(ParseFault::BadChar(place)),
+        Err(LexFault::Memory) => Err(ParseFault::Memory),
+    }
+}

@@ -1,0 +1,256 @@
+// SELECT.
+ghost use Rattle.std.specs.Prelude.{◌≡◌, ◌++◌, ◌∷◌, IfOk, map};
+ghost use Rattle.sql_grammar.specs.declared.mark.Mark.TheVariants as mark;
+ghost use Rattle.sql_grammar.specs.declared.token.Token.TheVariants as token;
+ghost use Rattle.sql_grammar.specs.Lang.{one_at, maybe_at};
+ghost use Rattle.sql_grammar.specs.Statements.{key_of, conditions_of, Following};
+ghost use Rattle.sql_grammar.specs.Reading.{name_at, item_at, items_at, alias_at, source_at, join_at, joined_at, sources_at, ref_at, group_at, direction_at, key_at, order_at, from_at, select_at};
+ghost use Rattle.sql_precedence.specs.Results.{Gives};
+
+use crate::changes::filter;
+use crate::part::{commas, many};
+use dl_base::{Expr, Item, Key, KeyBy, List, Memory, Name, Ref, Select, Stmt, TableRef};
+use sql_grammar::{Mark, Terminal};
+use sql_precedence::{Refused, expect, expression, maybe_name, name, stands};
+use std::alloc::Global;
+
+// [AS name]
+fn item_alias(terminals: &[Terminal], at: usize) -> Result<(Option<Name>, usize), Refused>
+    ensures { Gives result (maybe_at (token.Mark mark.As) name_at terminals.now at) }
+{
+    if stands(terminals, at, Mark::As) {
+        let (alias, at) = name(terminals, at + 1)?;
+        Ok((Some(alias), at))
+    } else {
+        Ok((None, at))
+    }
+}
+
+/// expr [AS name]
+#[tactic(auto, unfolding(sql_grammar::specs::Reading::item_at))]
+pub fn item(alloc: Global, terminals: &[Terminal], at: usize) -> Result<(Item, usize), Refused>
+    ensures { Gives result (item_at terminals.now at) }
+{
+    let (expr, at) = expression(alloc, terminals, at)?;
+    let (alias, at) = item_alias(terminals, at)?;
+    Ok((Item { expr, alias }, at))
+}
+
+// * | item {, item}
+#[tactic(auto, unfolding(sql_grammar::specs::Reading::items_at))]
+fn items(
+    alloc: Global,
+    terminals: &[Terminal],
+    at: usize,
+) -> Result<(Option<List<Item>>, usize), Refused>
+    ensures { Gives result (items_at terminals.now at) }
+{
+    if stands(terminals, at, Mark::Star) {
+        return Ok((None, at + 1));
+    }
+    let (items, at) = commas::<Item>(alloc, terminals, at)?;
+    Ok((Some(items), at))
+}
+
+// [[AS] name]
+#[tactic(auto, unfolding(sql_grammar::specs::Reading::alias_at))]
+fn alias(terminals: &[Terminal], at: usize) -> Result<(Option<Name>, usize), Refused>
+    ensures { Gives result (alias_at terminals.now at) }
+{
+    if stands(terminals, at, Mark::As) {
+        let (alias, at) = name(terminals, at + 1)?;
+        Ok((Some(alias), at))
+    } else {
+        maybe_name(terminals, at)
+    }
+}
+
+// name [[AS] name]
+#[tactic(auto, unfolding(sql_grammar::specs::Reading::source_at))]
+fn source(terminals: &[Terminal], at: usize) -> Result<(TableRef, usize), Refused>
+    ensures { Gives result (source_at terminals.now at) }
+{
+    let (table, at) = name(terminals, at)?;
+    let (alias, at) = alias(terminals, at)?;
+    Ok((TableRef { table, alias }, at))
+}
+
+// source ON expr
+#[tactic(auto, unfolding(sql_grammar::specs::Reading::join_at))]
+fn join(
+    alloc: Global,
+    terminals: &[Terminal],
+    at: usize,
+) -> Result<((TableRef, Option<Expr>), usize), Refused>
+    ensures { Gives result (join_at terminals.now at) }
+{
+    let (source, at) = source(terminals, at)?;
+    let at = expect(terminals, at, Mark::On)?;
+    let (condition, at) = expression(alloc, terminals, at)?;
+    Ok(((source, Some(condition)), at))
+}
+
+/// , source | [INNER] JOIN source ON expr
+#[tactic(auto, unfolding(sql_grammar::specs::Reading::joined_at))]
+pub fn joined(
+    alloc: Global,
+    terminals: &[Terminal],
+    at: usize,
+) -> Result<((TableRef, Option<Expr>), usize), Refused>
+    ensures { Gives result (joined_at terminals.now at) }
+{
+    if stands(terminals, at, Mark::Comma) {
+        let (source, at) = source(terminals, at + 1)?;
+        Ok(((source, None), at))
+    } else if stands(terminals, at, Mark::Join) {
+        join(alloc, terminals, at + 1)
+    } else {
+        let at = expect(terminals, at, Mark::Inner)?;
+        let at = expect(terminals, at, Mark::Join)?;
+        join(alloc, terminals, at)
+    }
+}
+
+// source {, source | [INNER] JOIN source ON expr}
+#[tactic(auto, unfolding(sql_grammar::specs::Reading::sources_at))]
+fn sources(
+    alloc: Global,
+    terminals: &[Terminal],
+    at: usize,
+) -> Result<((TableRef, List<(TableRef, Option<Expr>)>), usize), Refused>
+    ensures { Gives result (sources_at terminals.now at) }
+{
+    let (first, at) = source(terminals, at)?;
+    let (more, at) = many::<(TableRef, Option<Expr>)>(alloc, terminals, at)?;
+    Ok(((first, more), at))
+}
+
+/// name [. name]
+#[tactic(auto, unfolding(sql_grammar::specs::Reading::ref_at))]
+pub fn reference(terminals: &[Terminal], at: usize) -> Result<(Ref, usize), Refused>
+    ensures { Gives result (ref_at terminals.now at) }
+{
+    let (first, at) = name(terminals, at)?;
+    if stands(terminals, at, Mark::Dot) {
+        let (column, at) = name(terminals, at + 1)?;
+        Ok((
+            Ref {
+                table: Some(first),
+                column,
+            },
+            at,
+        ))
+    } else {
+        Ok((
+            Ref {
+                table: None,
+                column: first,
+            },
+            at,
+        ))
+    }
+}
+
+// [GROUP BY ref {, ref}]
+#[tactic(auto, unfolding(sql_grammar::specs::Reading::group_at))]
+fn group(alloc: Global, terminals: &[Terminal], at: usize) -> Result<(List<Ref>, usize), Refused>
+    ensures { Gives result (group_at terminals.now at) }
+{
+    if !stands(terminals, at, Mark::Group) {
+        return Ok((List::empty(alloc), at));
+    }
+    let at = expect(terminals, at + 1, Mark::By)?;
+    commas::<Ref>(alloc, terminals, at)
+}
+
+// name | number
+fn key_by(terminals: &[Terminal], at: usize) -> Result<(KeyBy, usize), Refused>
+    ensures { Gives result (one_at key_of terminals.now at) }
+{
+    match terminals.get(at) {
+        Some(Terminal::Word(name)) => Ok((KeyBy::Name(name.copy()?), at + 1)),
+        Some(Terminal::Number(n)) => Ok((KeyBy::Place(*n), at + 1)),
+        _ => Err(Refused::Syntax(at)),
+    }
+}
+
+// [ASC | DESC]
+#[tactic(auto, unfolding(sql_grammar::specs::Reading::direction_at))]
+fn direction(terminals: &[Terminal], at: usize) -> Result<(bool, usize), Refused>
+    ensures { Gives result (direction_at terminals.now at) }
+{
+    if stands(terminals, at, Mark::Asc) {
+        Ok((false, at + 1))
+    } else if stands(terminals, at, Mark::Desc) {
+        Ok((true, at + 1))
+    } else {
+        Ok((false, at))
+    }
+}
+
+/// (name | number) [ASC | DESC]
+#[tactic(auto, unfolding(sql_grammar::specs::Reading::key_at))]
+pub fn key(terminals: &[Terminal], at: usize) -> Result<(Key, usize), Refused>
+    ensures { Gives result (key_at terminals.now at) }
+{
+    let (by, at) = key_by(terminals, at)?;
+    let (descending, at) = direction(terminals, at)?;
+    Ok((Key { by, descending }, at))
+}
+
+// [ORDER BY key {, key}]
+#[tactic(auto, unfolding(sql_grammar::specs::Reading::order_at))]
+fn order(alloc: Global, terminals: &[Terminal], at: usize) -> Result<(List<Key>, usize), Refused>
+    ensures { Gives result (order_at terminals.now at) }
+{
+    if !stands(terminals, at, Mark::Order) {
+        return Ok((List::empty(alloc), at));
+    }
+    let at = expect(terminals, at + 1, Mark::By)?;
+    commas::<Key>(alloc, terminals, at)
+}
+
+// The sources, and the conditions of those that have one.
+fn parted(
+    alloc: Global,
+    first: TableRef,
+    more: List<(TableRef, Option<Expr>)>,
+) -> Result<(List<TableRef>, List<Expr>), Memory>
+    ensures { IfOk result (λ r. (r.0 ≡ first ∷ map (λ x. x.0) more) × (r.1 ≡ conditions_of more)) }
+{
+    let mut from = List::empty(alloc);
+    let mut conditions = List::empty(alloc);
+    from.push(first)?;
+    'parts: for part in more.into_vec() {
+        let (source, condition) = part;
+        from.push(source)?;
+        match condition {
+            Some(condition) => conditions.push(condition)?,
+            None => {}
+        }
+    }
+    Ok((from, conditions))
+}
+
+/// (* | item {, item}) FROM sources [WHERE expr] [GROUP BY ..] [ORDER BY ..]
+#[tactic(auto, unfolding(sql_grammar::specs::Reading::select_at, sql_grammar::specs::Reading::from_at))]
+pub fn select(alloc: Global, terminals: &[Terminal], at: usize) -> Result<(Stmt, usize), Refused>
+    ensures { Gives result (select_at terminals.now at) }
+{
+    let (items, at) = items(alloc, terminals, at)?;
+    let at = expect(terminals, at, Mark::From)?;
+    let ((first, more), at) = sources(alloc, terminals, at)?;
+    let (filter, at) = filter(alloc, terminals, at)?;
+    let (group, at) = group(alloc, terminals, at)?;
+    let (order, at) = order(alloc, terminals, at)?;
+    let (from, conditions) = parted(alloc, first, more)?;
+    let select = Select {
+        items,
+        from,
+        conditions,
+        filter,
+        group,
+        order,
+    };
+    Ok((Stmt::Select(select), at))
+}
