@@ -1,0 +1,7 @@
+pub mod Lists
+pub mod Sources
+pub mod Conditions
+pub mod Selecting
+pub mod Assigning
+pub mod Creating
+pub mod Changing
