@@ -1,0 +1,16 @@
+pub mod Assigned
+pub mod Cells
+pub mod Changes
+pub mod Examples
+pub mod Fitting
+pub mod Left
+pub mod Made
+pub mod Numbers
+pub mod Ordered
+pub mod Ordering
+pub mod Put
+pub mod Rising
+pub mod Rows
+pub mod Steps
+pub mod Walks
+pub mod Whole
