@@ -1,0 +1,10 @@
+pub mod Sources
+pub mod Conditions
+pub mod Walking
+pub mod Items
+pub mod Keys
+pub mod Ordering
+pub mod Merging
+pub mod Grouping
+pub mod Answering
+pub mod Planning

@@ -1,0 +1,153 @@
+// What a query shows: the columns in order, or its items.
+ghost use Rattle.std.specs.Prelude.{◌≡◌, ◌++◌, IfOk, Ok, bytes_eq, length};
+ghost use Rattle.std.specs.List.{list_any};
+ghost use Rattle.meaning_sql.specs.Columns.{only_one};
+ghost use Rattle.meaning_sql.specs.Faults.{Gives, typed};
+ghost use Rattle.meaning_sql.specs.Types as types_meant;
+ghost use Rattle.meaning_sql.specs.Values.{cell};
+ghost use Rattle.meaning_statements.specs.Lists.{each, option_list};
+ghost use Rattle.meaning_statements.specs.Selecting as meant;
+ghost use Rattle.sql_query.specs.Items as shown;
+
+use dl_base::{Column, Copied, Expr, Item, Kind, List, Memory, Name, Row, SqlFault, Value};
+use meaning_sql::{Columns, Context, SqlType, Standing};
+use sql_expr::{check_in, evaluate};
+use std::alloc::Global;
+
+/// The types of what is shown, or the first breach.
+pub(crate) fn item_types(
+    alloc: Global,
+    columns: &Columns,
+    items: &Option<List<Item>>,
+    standing: &Standing,
+) -> Result<List<SqlType>, SqlFault>
+    ensures { Gives (λ t. t) result (shown.types_of columns.now standing.now items.now) }
+{
+    match items {
+        None => star_types(alloc, columns, standing),
+        Some(items) => listed_types(alloc, columns, items.as_slice(), standing),
+    }
+}
+
+fn star_types(
+    alloc: Global,
+    columns: &Columns,
+    standing: &Standing,
+) -> Result<List<SqlType>, SqlFault>
+    ensures { Gives (λ t. t) result (each (shown.star_type standing.now) columns.now) }
+{
+    let mut made = List::empty(alloc);
+    for c in columns.as_slice() {
+        made.push(star_type(&c.1, standing)?)?;
+    }
+    Ok(made)
+}
+
+/// The type of a column under `*`, which is a breach under GROUP BY.
+pub(crate) fn star_type(column: &Column, standing: &Standing) -> Result<SqlType, SqlFault>
+    ensures { result ≡ typed (meant.is_ungrouped standing.now) (types_meant.kind_type column.now.kind) }
+{
+    match standing {
+        Standing::Grouped(_) => Err(SqlFault::TypeFault),
+        Standing::Row => Ok(kind_type(column.kind)),
+        Standing::Item => Ok(kind_type(column.kind)),
+    }
+}
+
+/// The type of the cells of a column.
+pub(crate) fn kind_type(kind: Kind) -> SqlType
+    ensures { result ≡ types_meant.kind_type kind }
+{
+    match kind {
+        Kind::Int => SqlType::Int,
+        Kind::Text(_) => SqlType::Text,
+        Kind::Free => SqlType::Link,
+        Kind::Linked(_) => SqlType::Link,
+    }
+}
+
+fn listed_types(
+    alloc: Global,
+    columns: &Columns,
+    items: &[Item],
+    standing: &Standing,
+) -> Result<List<SqlType>, SqlFault>
+    ensures { Gives (λ t. t) result (each (shown.item_type columns.now standing.now) items.now) }
+{
+    let mut made = List::empty(alloc);
+    for item in items {
+        made.push(item_type(columns, item, standing)?)?;
+    }
+    Ok(made)
+}
+
+/// The type of an item, which is that of a cell.
+pub(crate) fn item_type(
+    columns: &Columns,
+    item: &Item,
+    standing: &Standing,
+) -> Result<SqlType, SqlFault>
+    ensures { Gives (λ t. t) result (shown.item_type columns.now standing.now item.now) }
+{
+    let t = check_in(&item.expr, columns, standing)?;
+    if matches!(t, SqlType::Truth) {
+        Err(SqlFault::TypeFault)
+    } else {
+        Ok(t)
+    }
+}
+
+/// What is shown of a row, aggregates being over a group of rows.
+pub(crate) fn answer(
+    alloc: Global,
+    items: &Option<List<Item>>,
+    columns: &Columns,
+    context: &Context,
+    group: &List<Row>,
+    row: &Row,
+) -> Result<Row, SqlFault>
+    ensures { Gives (λ r. r) result (shown.answer_of columns.now context.entry.now items.now group.now row.now) }
+{
+    match items {
+        None => Ok(star_cells(alloc, columns, row)?),
+        Some(items) => listed_cells(alloc, items.as_slice(), columns, context, group, row),
+    }
+}
+
+fn star_cells(alloc: Global, columns: &Columns, row: &Row) -> Result<Row, Memory>
+    ensures { IfOk result (λ made. made ≡ meant.row_of_cells (shown.cells_from row.now 0 columns.now)) }
+{
+    let mut values = List::empty(alloc);
+    for (i, _c) in columns.as_slice().iter().enumerate() {
+        values.push(cell(row, i)?)?;
+    }
+    Ok(Row { values })
+}
+
+/// The value at a place from 0 of a row.
+#[tactic(auto, unfolding(meaning_sql::specs::Values::cell))]
+pub(crate) fn cell(row: &Row, place: usize) -> Result<Value, Memory>
+    ensures { IfOk result (λ made. made ≡ cell row.now place) }
+{
+    match row.values.at(place) {
+        Some(x) => x.copy(),
+        None => Ok(Value::Null),
+    }
+}
+
+fn listed_cells(
+    alloc: Global,
+    items: &[Item],
+    columns: &Columns,
+    context: &Context,
+    group: &List<Row>,
+    row: &Row,
+) -> Result<Row, SqlFault>
+    ensures { Gives (λ r. r) result (shown.listed_row columns.now context.entry.now items.now group.now row.now) }
+{
+    let mut values = List::empty(alloc);
+    for item in items {
+        values.push(evaluate(alloc, &item.expr, row, columns, context, group)?)?;
+    }
+    Ok(Row { values })
+}

@@ -1,0 +1,18 @@
+//! SELECT (ISO/IEC 9075-2): the rows that a query gives over tables in memory.
+#![tactic(auto)]
+
+mod answering;
+mod conditions;
+mod group_key;
+mod grouping;
+mod items;
+mod joining;
+mod keys;
+mod ordering;
+mod selecting;
+mod sorting;
+mod sources;
+#[cfg(test)]
+mod tests;
+
+pub use selecting::select;

@@ -1,0 +1,125 @@
+// SELECT as a whole.
+ghost use Rattle.std.specs.Prelude.{◌≡◌};
+ghost use Rattle.meaning_sql.specs.Faults.{Gives, next};
+ghost use Rattle.meaning_statements.specs.Selecting as meant;
+ghost use Rattle.meaning_statements.specs.Sources as sources_meant;
+ghost use Rattle.sql_query.specs.Planning as planning;
+
+use crate::answering::answers;
+use crate::conditions::condition_types;
+use crate::grouping::{group_places, standing_of};
+use crate::items::item_types;
+use crate::joining::combined;
+use crate::keys::order_keys;
+use crate::sorting::sorted;
+use crate::sources::{Source, are_few, columns_of, sources_of};
+use dl_base::{Grid, Limit, List, Row, Select, SqlFault};
+use meaning_sql::{Columns, Context};
+use sql_condition::filter_type;
+use sql_table::Tables;
+use std::alloc::Global;
+
+/// The rows that a query gives over tables. It is refused, in this order, by its sources (`NoTable`, `Limit`, `Ambiguous`), by the
+/// types of its expressions in order of text, of GROUP BY and of ORDER BY (`NoColumn`, `Ambiguous`, `TypeFault`), by the number
+/// of its combined rows (`Limit`), and by the values of its conditions, and then of its items (`Overflow`, `ZeroDivide`,
+/// `BadLink`); or there is no `Memory`. Its cost grows with the product of the sources, with the rows that are kept, and as n log n
+/// with the answers that are sorted.
+pub fn select(
+    alloc: Global,
+    tables: &Tables,
+    query: &Select,
+    context: &Context,
+) -> Result<Grid, SqlFault>
+    ensures { Gives (λ g. g.rows) result (meant.select tables.now query.now context.entry.now) }
+{
+    match over_tables(alloc, tables, query, context) {
+        Ok(rows) => Ok(Grid { rows }),
+        Err(fault) => Err(fault),
+    }
+}
+
+fn over_tables(
+    alloc: Global,
+    tables: &Tables,
+    query: &Select,
+    context: &Context,
+) -> Result<List<Row>, SqlFault>
+    ensures { Gives (λ r. r) result (next (sources_meant.sources_of tables.now query.now.from) (λ s. planning.selected s query.now context.entry.now)) }
+{
+    let sources = sources_of(alloc, tables, query.from.as_slice())?;
+    selected(alloc, sources.as_slice(), query, context)
+}
+
+fn selected(
+    alloc: Global,
+    sources: &[Source],
+    query: &Select,
+    context: &Context,
+) -> Result<List<Row>, SqlFault>
+    ensures { Gives (λ r. r) result (planning.selected sources.now query.now context.entry.now) }
+{
+    let columns = columns_of(alloc, sources)?;
+    over_columns(alloc, sources, &columns, query, context)
+}
+
+// The rows that a query gives over its sources, whose columns are these.
+#[tactic(auto, unfolding(crate::specs::Planning::chosen))]
+fn over_columns(
+    alloc: Global,
+    sources: &[Source],
+    columns: &Columns,
+    query: &Select,
+    context: &Context,
+) -> Result<List<Row>, SqlFault>
+    requires { columns.now ≡ sources_meant.columns_of sources.now }
+    ensures { Gives (λ r. r) result (planning.chosen columns.now sources.now query.now context.entry.now) }
+{
+    let plan = planned(alloc, columns, query)?;
+    if !are_few(sources) {
+        return Err(SqlFault::Limit(Limit::Product));
+    }
+    answered(alloc, sources, columns, query, context, &plan)
+}
+
+#[tactic(auto, unfolding(crate::specs::Planning::answered))]
+fn answered(
+    alloc: Global,
+    sources: &[Source],
+    columns: &Columns,
+    query: &Select,
+    context: &Context,
+    plan: &Plan,
+) -> Result<List<Row>, SqlFault>
+    requires { columns.now ≡ sources_meant.columns_of sources.now }
+    ensures { Gives (λ r. r) result (planning.answered columns.now sources.now query.now context.entry.now plan.now.places plan.now.keys) }
+{
+    let rows = combined(alloc, sources, query, columns, context)?;
+    let made = answers(alloc, query, columns, context, plan.places.as_slice(), rows)?;
+    Ok(sorted(alloc, made, plan.keys.as_slice())?)
+}
+
+// What is known of a query before a row is looked at: the places of its groups, and its keys.
+#[derive(Drop)]
+struct Plan {
+    places: List<usize>,
+    keys: List<(usize, bool)>,
+}
+
+#[tactic(auto, unfolding(crate::specs::Planning::planned))]
+fn planned(alloc: Global, columns: &Columns, query: &Select) -> Result<Plan, SqlFault>
+    ensures { Gives (λ p. (p.places, p.keys)) result (planning.planned columns.now query.now) }
+{
+    let standing = standing_of(alloc, columns, query)?;
+    condition_types(alloc, columns, query.conditions.as_slice())?;
+    item_types(alloc, columns, &query.items, &standing)?;
+    filter_type(columns, &query.filter)?;
+    let places = group_places(alloc, columns, query.group.as_slice())?;
+    let keys = order_keys(
+        alloc,
+        columns,
+        &query.items,
+        &standing,
+        query.order.as_slice(),
+    )?;
+    Ok(Plan { places, keys })
+}
