@@ -1,0 +1,11 @@
+pub mod Clearing
+pub mod Columns
+pub mod KeyColumns
+pub mod KeyPlaces
+pub mod Naming
+pub mod Numbering
+pub mod Reversed
+pub mod Rising
+pub mod StoodKeys
+pub mod Whole
+pub mod OneUpdated

@@ -1,0 +1,4 @@
+pub mod Steps
+pub mod NewRows
+pub mod Parts
+pub mod Keys

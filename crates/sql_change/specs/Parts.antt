@@ -1,0 +1,105 @@
+-- INSERT, UPDATE and DELETE in parts: each is what is left to do of a statement once the parts before it are known. What is
+-- made is the table, the next link number and the number of rows that were put in, met or removed.
+use Rattle.std.specs.Prelude.{ℕ, ◌+◌, ◌-◌, ◌^◌, ◌==◌, ◌&&◌, ◌++◌, Bool, List, [], length, map, Option, Result, Ok, nat_le}
+use Rattle.dl_base.specs.declared.answer.Limit.TheVariants as limits
+use Rattle.dl_base.specs.declared.sql_fault.SqlFault.{SqlFault}
+use Rattle.dl_base.specs.declared.sql_fault.SqlFault.TheVariants as faults
+use Rattle.dl_base.specs.declared.statement.Expr.{Expr}
+use Rattle.dl_base.specs.declared.value.Row.{Row}
+use Rattle.meaning_sql.specs.declared.Context.{Context}
+use Rattle.meaning_sql.specs.declared.Standing.TheVariants as standing
+use Rattle.meaning_sql.specs.Columns.{Columns}
+use Rattle.meaning_sql.specs.Faults.{◌>>=◌}
+use Rattle.meaning_sql.specs.Types.{type_of}
+use Rattle.meaning_statements.specs.Changing.{Changed, keys_hold, set_places, target_places, assigned, inserted_rows, updated_rows, remaining}
+use Rattle.meaning_statements.specs.Conditions.{condition_type}
+use Rattle.meaning_statements.specs.Lists.{unless, option_list, each}
+use Rattle.meaning_statements.specs.Sources.{no_row, own_columns}
+use Rattle.meaning_tables.specs.Tables.{Rows, Tables, with_table}
+
+abbrev pub Made : Type 0
+Made = Rows × (ℕ × ℕ)
+
+-- what is made, put in the place of its table
+abbrev pub told : Tables → List ℕ → Made → Changed
+told tables name made = record { tables = with_table tables name made.0; next = made.1.0; count = made.1.1 }
+
+-- INSERT
+
+abbrev pub has_room : Rows → ℕ → Bool
+has_room t more = nat_le (length t.rows + more) 1000000 && nat_le (t.next + more) (2 ^ 63)
+
+abbrev pub grown_table : Rows → List (ℕ × Row) → ℕ → Rows
+grown_table t rows count = record t { next = t.next + count; rows = t.rows ++ rows }
+
+-- where there is room for the rows, and the keys differ
+unfoldable pub grown : Rows → List (ℕ × Row) → ℕ → ℕ → Result Made SqlFault
+grown t rows next count = do
+  room ← unless (has_room t count) (faults.Limit limits.Rows)
+  keys ← keys_hold (grown_table t rows count)
+  Ok (grown_table t rows count, (next, count))
+
+-- once all types fit; expressions see the given columns at the given row
+unfoldable pub filled : Columns → Row → Rows → List ℕ → List (List Expr) → Context → ℕ → Result Made SqlFault
+filled seen at t places tuples context k = do
+  rows ← inserted_rows context seen at t.columns places t.next k tuples
+  grown t rows.0 rows.1 (length tuples)
+
+-- once the tuples are of the right length
+unfoldable pub typed_in : Columns → Row → Rows → List ℕ → List (List Expr) → Context → ℕ → Result Made SqlFault
+typed_in seen at t places tuples context k = do
+  types ← each (each (type_of seen standing.Row)) tuples
+  fit ← each (assigned t.columns places) types
+  filled seen at t places tuples context k
+
+-- once the places of the columns are known
+unfoldable pub put_in : Columns → Row → Rows → List ℕ → List (List Expr) → Context → ℕ → Result Made SqlFault
+put_in seen at t places tuples context k = do
+  lengths ← each (λ es. unless (length es == length places) faults.Arity) tuples
+  typed_in seen at t places tuples context k
+
+unfoldable pub inserted : Rows → Option (List (List ℕ)) → List (List Expr) → Context → ℕ → Result Made SqlFault
+inserted t names tuples context k = do
+  places ← target_places t.columns names
+  put_in [] no_row t places tuples context k
+
+-- UPDATE
+
+abbrev pub with_rows : Rows → List (ℕ × Row) → Rows
+with_rows t rows = record t { rows = rows }
+
+-- where the keys of the new rows differ
+unfoldable pub replaced : Rows → List (ℕ × Row) → ℕ → ℕ → Result Made SqlFault
+replaced t rows next met = do
+  keys ← keys_hold (with_rows t rows)
+  Ok (with_rows t rows, (next, met))
+
+-- once all types fit
+unfoldable pub set_rows : Columns → Rows → List ℕ → List (List ℕ × Expr) → Option Expr → Context → ℕ → Result Made SqlFault
+set_rows columns t places sets filter context k = do
+  rows ← updated_rows columns context t.columns (option_list filter) places (map (λ s. s.1) sets) k t.rows
+  replaced t rows.0 rows.1.0 rows.1.1
+
+-- once the places of the columns are known
+unfoldable pub set_at : Columns → Rows → List ℕ → List (List ℕ × Expr) → Option Expr → Context → ℕ → Result Made SqlFault
+set_at columns t places sets filter context k = do
+  types ← each (λ s. type_of columns standing.Row s.1) sets
+  conditions ← each (condition_type columns) (option_list filter)
+  fit ← assigned t.columns places types
+  set_rows columns t places sets filter context k
+
+unfoldable pub updated : List ℕ → Rows → List (List ℕ × Expr) → Option Expr → Context → ℕ → Result Made SqlFault
+updated name t sets filter context k = do
+  places ← set_places t.columns [] (map (λ s. s.0) sets)
+  set_at (own_columns name t) t places sets filter context k
+
+-- DELETE
+
+unfoldable pub left_over : Columns → Rows → Option Expr → Context → ℕ → Result Made SqlFault
+left_over columns t filter context k = do
+  types ← each (condition_type columns) (option_list filter)
+  rows ← remaining columns context (option_list filter) t.rows
+  Ok (with_rows t rows, (k, length t.rows - length rows))
+
+abbrev pub deleted : List ℕ → Rows → Option Expr → Context → ℕ → Result Made SqlFault
+deleted name t filter context k = left_over (own_columns name t) t filter context k

@@ -1,0 +1,205 @@
+// A statement as a whole: the new table is built beside the old one, and put in its place as the last step, which takes no
+// memory.
+ghost use Rattle.std.specs.Prelude.{◌≡◌, ◌≢◌, ◌≤◌, IfOk, IfErr, OnErr, OnOk, Ok, Err, ℕ};
+ghost use Rattle.dl_base.specs.declared.sql_fault.SqlFault.TheVariants as faults;
+ghost use Rattle.meaning_sql.specs.Faults.{Gives};
+ghost use Rattle.meaning_statements.specs.Changing as meant;
+ghost use Rattle.meaning_statements.specs.Sources.{present};
+ghost use Rattle.meaning_tables.specs.Tables.{table_of, with_table};
+
+use crate::creating::columns_made;
+use crate::inserting::inserted;
+use crate::updating::{deleted, updated};
+use dl_base::{ColumnDef, Expr, Limit, List, Memory, Name, SqlFault, Stmt};
+use sql_expr::Context;
+use sql_table::{Table, Tables};
+use std::alloc::Global;
+
+const MOST_TABLES: usize = 256;
+
+const MOST_COLUMNS: usize = 64;
+
+/// What a statement makes of its table, the next link number, and the number of rows that it put in, met or removed.
+#[derive(Drop)]
+pub(crate) struct Outcome {
+    pub table: Table,
+    pub next: u32,
+    pub count: u64,
+}
+
+/// Carries out CREATE TABLE, DROP TABLE, INSERT, UPDATE or DELETE, and gives the number of rows that it put in, met or removed;
+/// 0 for the first two, and for any other statement, which changes nothing. Links get the context's transaction number and the
+/// next link number, counted from 1 inside the transaction, which then goes up. A refusal, or want of memory, leaves the tables
+/// and the next link number as they were.
+pub fn change(
+    alloc: Global,
+    tables: &mut Tables,
+    stmt: &Stmt,
+    context: &Context,
+    next_link: &mut u32,
+) -> Result<u64, SqlFault>
+    requires { next_link.old ≤ 1000001 }
+    ensures ok { IfOk result (λ count. meant.change tables.old stmt.now context.entry.now next_link.old ≡ Ok (record { tables = tables.new; next = next_link.new; count = count })) }
+    ensures refused { IfErr result (λ e. e ≢ faults.Memory → meant.change tables.old stmt.now context.entry.now next_link.old ≡ Err e) }
+    ensures unchanged { OnErr result ((tables.new ≡ tables.old) × (next_link.new ≡ next_link.old)) }
+    ensures few { next_link.new ≤ 1000001 }
+{
+    match stmt {
+        Stmt::CreateTable(name, columns) => {
+            create(alloc, tables, name, columns)?;
+            Ok(0)
+        }
+        Stmt::DropTable(name) => {
+            drop_table(tables, name)?;
+            Ok(0)
+        }
+        Stmt::Insert(name, names, tuples) => {
+            insert(alloc, tables, name, names, tuples, context, next_link)
+        }
+        Stmt::Update(name, sets, filter) => {
+            update(alloc, tables, name, sets, filter, context, next_link)
+        }
+        Stmt::Delete(name, filter) => delete(alloc, tables, name, filter, context, next_link),
+        Stmt::Begin | Stmt::Commit | Stmt::Rollback | Stmt::Select(_) => Ok(0),
+    }
+}
+
+fn put_in_place(tables: &mut Tables, name: &Name, made: Outcome, next_link: &mut u32) -> u64
+    ensures tables { tables.new ≡ with_table tables.old name.now made.table }
+    ensures next { next_link.new ≡ made.next }
+    ensures count { result ≡ made.count }
+{
+    let Outcome { table, next, count } = made;
+    let _ = tables.put(name, table);
+    *next_link = next;
+    count
+}
+
+#[tactic(auto, unfolding(meaning_statements::specs::Changing::create))]
+fn create(
+    alloc: Global,
+    tables: &mut Tables,
+    name: &Name,
+    columns: &List<ColumnDef>,
+) -> Result<(), SqlFault>
+    ensures ok { OnOk result ((k : ℕ) → meant.create tables.old name.now columns.now k ≡ Ok (record { tables = tables.new; next = k; count = 0 })) }
+    ensures refused { IfErr result (λ e. (k : ℕ) → e ≢ faults.Memory → meant.create tables.old name.now columns.now k ≡ Err e) }
+    ensures unchanged { OnErr result (tables.new ≡ tables.old) }
+{
+    if tables.table(name).is_some() {
+        return Err(SqlFault::TableExists(name.copy()?));
+    }
+    if tables.len() >= MOST_TABLES {
+        return Err(SqlFault::Limit(Limit::Tables));
+    }
+    if columns.len() > MOST_COLUMNS {
+        return Err(SqlFault::Limit(Limit::Columns));
+    }
+    let made = columns_made(alloc, columns)?;
+    tables.add(name.copy()?, made)?;
+    Ok(())
+}
+
+#[tactic(auto, unfolding(meaning_statements::specs::Changing::drop_table))]
+fn drop_table(tables: &mut Tables, name: &Name) -> Result<(), SqlFault>
+    ensures ok { OnOk result ((k : ℕ) → meant.drop_table tables.old name.now k ≡ Ok (record { tables = tables.new; next = k; count = 0 })) }
+    ensures refused { IfErr result (λ e. (k : ℕ) → e ≢ faults.Memory → meant.drop_table tables.old name.now k ≡ Err e) }
+    ensures unchanged { OnErr result (tables.new ≡ tables.old) }
+{
+    if tables.table(name).is_none() {
+        return Err(SqlFault::NoTable(name.copy()?));
+    }
+    tables.discard(name);
+    Ok(())
+}
+
+// The table of a name.
+fn found<'a>(tables: &'a Tables, name: &Name) -> Result<&'a Table, SqlFault>
+    ensures { Gives (λ t. t.now) result (present name.now (table_of tables.now name.now)) }
+{
+    match tables.table(name) {
+        Some(table) => Ok(table),
+        None => Err(SqlFault::NoTable(name.copy()?)),
+    }
+}
+
+#[tactic(auto, using(crate::proofs::Whole::insert_is))]
+fn insert(
+    alloc: Global,
+    tables: &mut Tables,
+    name: &Name,
+    names: &Option<List<Name>>,
+    tuples: &List<List<Expr>>,
+    context: &Context,
+    next_link: &mut u32,
+) -> Result<u64, SqlFault>
+    requires { next_link.old ≤ 1000001 }
+    ensures ok { IfOk result (λ count. meant.insert tables.old name.now names.now tuples.now context.entry.now next_link.old ≡ Ok (record { tables = tables.new; next = next_link.new; count = count })) }
+    ensures refused { IfErr result (λ e. e ≢ faults.Memory → meant.insert tables.old name.now names.now tuples.now context.entry.now next_link.old ≡ Err e) }
+    ensures unchanged { OnErr result ((tables.new ≡ tables.old) × (next_link.new ≡ next_link.old)) }
+    ensures few { next_link.new ≤ 1000001 }
+{
+    let made = inserted(
+        alloc,
+        found(tables, name)?,
+        names,
+        tuples,
+        context,
+        *next_link,
+    )?;
+    Ok(put_in_place(tables, name, made, next_link))
+}
+
+#[tactic(auto, using(crate::proofs::Whole::update_is))]
+fn update(
+    alloc: Global,
+    tables: &mut Tables,
+    name: &Name,
+    sets: &List<(Name, Expr)>,
+    filter: &Option<Expr>,
+    context: &Context,
+    next_link: &mut u32,
+) -> Result<u64, SqlFault>
+    requires { next_link.old ≤ 1000001 }
+    ensures ok { IfOk result (λ count. meant.update tables.old name.now sets.now filter.now context.entry.now next_link.old ≡ Ok (record { tables = tables.new; next = next_link.new; count = count })) }
+    ensures refused { IfErr result (λ e. e ≢ faults.Memory → meant.update tables.old name.now sets.now filter.now context.entry.now next_link.old ≡ Err e) }
+    ensures unchanged { OnErr result ((tables.new ≡ tables.old) × (next_link.new ≡ next_link.old)) }
+    ensures few { next_link.new ≤ 1000001 }
+{
+    let made = updated(
+        alloc,
+        found(tables, name)?,
+        name,
+        sets,
+        filter,
+        context,
+        *next_link,
+    )?;
+    Ok(put_in_place(tables, name, made, next_link))
+}
+
+#[tactic(auto, using(crate::proofs::Whole::delete_is))]
+fn delete(
+    alloc: Global,
+    tables: &mut Tables,
+    name: &Name,
+    filter: &Option<Expr>,
+    context: &Context,
+    next_link: &mut u32,
+) -> Result<u64, SqlFault>
+    requires { next_link.old ≤ 1000001 }
+    ensures ok { IfOk result (λ count. meant.delete tables.old name.now filter.now context.entry.now next_link.old ≡ Ok (record { tables = tables.new; next = next_link.new; count = count })) }
+    ensures refused { IfErr result (λ e. e ≢ faults.Memory → meant.delete tables.old name.now filter.now context.entry.now next_link.old ≡ Err e) }
+    ensures unchanged { OnErr result ((tables.new ≡ tables.old) × (next_link.new ≡ next_link.old)) }
+    ensures few { next_link.new ≤ 1000001 }
+{
+    let made = deleted(
+        alloc,
+        found(tables, name)?,
+        name,
+        filter,
+        context,
+        *next_link,
+    )?;
+    Ok(put_in_place(tables, name, made, next_link))
+}

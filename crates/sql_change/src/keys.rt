@@ -1,0 +1,196 @@
+// The keys of rows.
+ghost use Rattle.std.specs.Prelude.{◌≡◌, ◌==◌, ◌||◌, ◌++◌, ◌∷◌, [], List, ℕ, ℤ, map, not, true, IfOk, IfSome, OnOk};
+ghost use Rattle.std.specs.Bool.{OnTrue};
+ghost use Rattle.std.specs.Cmp.Lexicographic.{pointwise};
+ghost use Rattle.std.specs.List.{list_any};
+ghost use Rattle.std.specs.Ordering.{int_eq};
+ghost use Rattle.meaning_sql.specs.Faults.{Gives};
+ghost use Rattle.meaning_statements.specs.Changing.{keys_hold, duplicate};
+ghost use Rattle.meaning_tables.specs.Fits as meant;
+ghost use Rattle.sql_change.specs.Keys.{HaveStood, IsKeyAt, StoodKeys};
+
+use dl_base::{Column, ColumnRule, Copied, List, Memory, Row, SqlFault, Value};
+use sql_table::Table;
+use std::alloc::Global;
+use std::collections::HashSet;
+
+/// Whether the keys of a table's rows differ: `DupKey` with the number of the first row whose key is that of an earlier row, or
+/// `Memory`. A table without a key column has no keys.
+pub(crate) fn check_keys(alloc: Global, table: &Table) -> Result<(), SqlFault>
+    ensures { Gives (λ u. true) result (keys_hold table.now) }
+{
+    let columns = table.columns();
+    if !has_key(columns.as_slice()) {
+        return Ok(());
+    }
+    match only_key(columns) {
+        Some(place) => check_one(alloc, table, place),
+        None => check_all(alloc, table),
+    }
+}
+
+// The place from 0 of the key column, where there is one alone.
+fn only_key(columns: &List<Column>) -> Option<usize>
+    ensures { IfSome result (λ place. IsKeyAt columns.now place) }
+{
+    for (i, column) in columns.as_slice().iter().enumerate() {
+        if is_key(column.rule) {
+            if has_key(columns.as_slice().split_at(i + 1).1) {
+                return None;
+            }
+            return Some(i);
+        }
+    }
+    None
+}
+
+// The keys in a table whose key is the value at one place: each is looked for among those that have stood.
+fn check_one(alloc: Global, table: &Table, place: usize) -> Result<(), SqlFault>
+    requires { IsKeyAt table.now.columns place }
+    ensures { Gives (λ u. true) result (duplicate (meant.repeated table.now.columns [] table.now.rows)) }
+{
+    let mut numbers = HashSet::new(alloc);
+    let mut texts = HashSet::new(alloc);
+    for i in 0..table.len() {
+        match table.at(i) {
+            Some((number, row)) => match row.values.at(place) {
+                Some(key) => {
+                    if !is_new(&mut numbers, &mut texts, key)? {
+                        return Err(SqlFault::DupKey(number));
+                    }
+                }
+                None => return check_all(alloc, table),
+            },
+            None => return Ok(()),
+        }
+    }
+    Ok(())
+}
+
+// Puts a key among those that have stood, where it is new. NULL and a datalink are the same as no key.
+fn is_new<'a>(
+    numbers: &mut HashSet<i64>,
+    texts: &mut HashSet<&'a [u8]>,
+    key: &'a Value,
+) -> Result<bool, Memory>
+    ensures { (stood : StoodKeys) → HaveStood numbers.old.keys (map (λ t. t.now) texts.old.keys) stood → IfOk result (λ new. (new ≡ not (list_any (pointwise meant.same_key (key.now ∷ [])) stood)) × OnTrue new (HaveStood numbers.new.keys (map (λ t. t.now) texts.new.keys) ((key.now ∷ []) ∷ stood))) }
+{
+    match key {
+        Value::Int(z) => number_is_new(numbers, z),
+        Value::Text(text) => text_is_new(texts, text.bytes()),
+        Value::Null => Ok(true),
+        Value::Link(_) => Ok(true),
+    }
+}
+
+fn number_is_new(numbers: &mut HashSet<i64>, z: &i64) -> Result<bool, Memory>
+    ensures new { IfOk result (λ new. new ≡ not (list_any (int_eq z.now) numbers.old.keys)) }
+    ensures put { (q : ℤ) → IfOk result (λ new. OnTrue new (list_any (int_eq q) numbers.new.keys ≡ (int_eq q z.now || list_any (int_eq q) numbers.old.keys))) }
+{
+    Ok(numbers.insert(*z)?)
+}
+
+fn text_is_new<'a>(texts: &mut HashSet<&'a [u8]>, text: &'a [u8]) -> Result<bool, Memory>
+    ensures new { IfOk result (λ new. new ≡ not (list_any (pointwise ◌==◌ text.now) (map (λ t. t.now) texts.old.keys))) }
+    ensures put { (q : List ℕ) → IfOk result (λ new. OnTrue new (list_any (pointwise ◌==◌ q) (map (λ t. t.now) texts.new.keys) ≡ (pointwise ◌==◌ q text.now || list_any (pointwise ◌==◌ q) (map (λ t. t.now) texts.old.keys)))) }
+{
+    Ok(texts.insert(text)?)
+}
+
+// The keys in any table: each is compared with all that have stood.
+#[tactic(auto, using(crate::proofs::Reversed::any_reversed, crate::proofs::Reversed::reversed_push))]
+fn check_all(alloc: Global, table: &Table) -> Result<(), SqlFault>
+    ensures { Gives (λ u. true) result (duplicate (meant.repeated table.now.columns [] table.now.rows)) }
+{
+    let mut keys = List::empty(alloc);
+    for i in 0..table.len() {
+        match table.at(i) {
+            Some((number, row)) => {
+                let key = key_of(alloc, table.columns(), row)?;
+                if is_among(&key, &keys) {
+                    return Err(SqlFault::DupKey(number));
+                }
+                keys.push(key)?;
+            }
+            None => return Ok(()),
+        }
+    }
+    Ok(())
+}
+
+fn has_key(columns: &[Column]) -> bool
+    ensures { result ≡ list_any (λ c. meant.is_key c.rule) columns.now }
+{
+    columns.iter().any(|column| is_key(column.rule))
+}
+
+fn is_key(rule: ColumnRule) -> bool
+    ensures { result ≡ meant.is_key rule }
+{
+    match rule {
+        ColumnRule::Key => true,
+        ColumnRule::Plain => false,
+        ColumnRule::NotNull => false,
+    }
+}
+
+// The values of a row in the key columns.
+#[tactic(auto, using(crate::proofs::KeyColumns::no_key_past_the_end, crate::proofs::KeyColumns::key_column, crate::proofs::KeyColumns::other_column))]
+fn key_of(alloc: Global, columns: &List<Column>, row: &Row) -> Result<List<Value>, Memory>
+    ensures { IfOk result (λ key. key ≡ meant.key_of columns.now row.now.values) }
+{
+    let mut key = List::empty(alloc);
+    let values = row.values.as_slice();
+    for (i, column) in columns.as_slice().iter().enumerate() {
+        if values.len() <= i {
+            return Ok(key);
+        }
+        if !is_key(column.rule) {
+            continue;
+        }
+        put_copy(&mut key, &values[i])?;
+    }
+    Ok(key)
+}
+
+fn put_copy(key: &mut List<Value>, value: &Value) -> Result<(), Memory>
+    ensures { OnOk result (key.new ≡ key.old ++ value.now ∷ []) }
+{
+    key.push(value.copy()?)?;
+    Ok(())
+}
+
+fn is_among(key: &List<Value>, keys: &List<List<Value>>) -> bool
+    ensures { result ≡ list_any (pointwise meant.same_key key.now) keys.now }
+{
+    for other in keys.as_slice() {
+        if is_same(key.as_slice(), other.as_slice()) {
+            return true;
+        }
+    }
+    false
+}
+
+fn is_same(key: &[Value], other: &[Value]) -> bool
+    ensures { result ≡ pointwise meant.same_key key.now other.now }
+{
+    if key.len() != other.len() {
+        return false;
+    }
+    for (i, value) in key.iter().enumerate() {
+        if !is_same_value(value, &other[i]) {
+            return false;
+        }
+    }
+    true
+}
+
+fn is_same_value(a: &Value, b: &Value) -> bool
+    ensures { result ≡ meant.same_key a.now b.now }
+{
+    match (a, b) {
+        (Value::Int(x), Value::Int(y)) => *x == *y,
+        (Value::Text(x), Value::Text(y)) => x.bytes() == y.bytes(),
+        _ => false,
+    }
+}

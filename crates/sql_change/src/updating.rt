@@ -1,0 +1,162 @@
+// UPDATE and DELETE: the rows of a table after them.
+ghost use Rattle.std.specs.Prelude.{◌≡◌, ◌≤◌, IfOk, IfErr};
+ghost use Rattle.dl_base.specs.declared.sql_fault.SqlFault.TheVariants as faults;
+ghost use Rattle.meaning_sql.specs.Faults.{Gives};
+ghost use Rattle.meaning_statements.specs.Sources as sources_meant;
+ghost use Rattle.meaning_tables.specs.Tables.{Rise};
+ghost use Rattle.sql_change.specs.Parts as parts;
+
+use crate::changing::Outcome;
+use crate::keys::check_keys;
+use crate::places::{check_types, own_columns, set_names, set_places, types_of_sets};
+use crate::rows::{Updated, remaining, updated_rows};
+use dl_base::{Copied, Expr, List, Name, Row, SqlFault};
+use sql_condition::filter_type;
+use sql_expr::{Columns, Context};
+use sql_table::Table;
+use std::alloc::Global;
+
+/// What an UPDATE makes of its table.
+#[tactic(auto, unfolding(crate::specs::Parts::updated))]
+pub(crate) fn updated(
+    alloc: Global,
+    table: &Table,
+    name: &Name,
+    sets: &List<(Name, Expr)>,
+    filter: &Option<Expr>,
+    context: &Context,
+    k: u32,
+) -> Result<Outcome, SqlFault>
+    requires { k ≤ 1000001 }
+    ensures made { Gives (λ m. (m.table, (m.next, m.count))) result (parts.updated name.now table.now sets.now filter.now context.entry.now k) }
+    ensures few { IfOk result (λ m. m.next ≤ 1000001) }
+{
+    let names = set_names(alloc, sets)?;
+    let places = set_places(alloc, table.columns(), &names)?;
+    set_under(alloc, name, table, &places, sets, filter, context, k)
+}
+
+// What is made once the places of the columns are known: expressions see the columns under the table's name.
+fn set_under(
+    alloc: Global,
+    name: &Name,
+    table: &Table,
+    places: &List<usize>,
+    sets: &List<(Name, Expr)>,
+    filter: &Option<Expr>,
+    context: &Context,
+    k: u32,
+) -> Result<Outcome, SqlFault>
+    requires { k ≤ 1000001 }
+    ensures made { Gives (λ m. (m.table, (m.next, m.count))) result (parts.set_at (sources_meant.own_columns name.now table.now) table.now places.now sets.now filter.now context.entry.now k) }
+    ensures few { IfOk result (λ m. m.next ≤ 1000001) }
+{
+    let columns = own_columns(alloc, name, table.columns())?;
+    set_at(alloc, &columns, table, places, sets, filter, context, k)
+}
+
+#[tactic(auto, unfolding(crate::specs::Parts::set_at), using(crate::proofs::Clearing::passing))]
+fn set_at(
+    alloc: Global,
+    columns: &Columns,
+    table: &Table,
+    places: &List<usize>,
+    sets: &List<(Name, Expr)>,
+    filter: &Option<Expr>,
+    context: &Context,
+    k: u32,
+) -> Result<Outcome, SqlFault>
+    requires { k ≤ 1000001 }
+    ensures made { Gives (λ m. (m.table, (m.next, m.count))) result (parts.set_at columns.now table.now places.now sets.now filter.now context.entry.now k) }
+    ensures few { IfOk result (λ m. m.next ≤ 1000001) }
+{
+    let types = types_of_sets(alloc, sets, columns)?;
+    filter_type(columns, filter)?;
+    check_types(table.columns(), places, &types)?;
+    set_rows(alloc, columns, table, places, sets, filter, context, k)
+}
+
+// The same once all types fit.
+#[tactic(auto, unfolding(crate::specs::Parts::set_rows))]
+fn set_rows(
+    alloc: Global,
+    columns: &Columns,
+    table: &Table,
+    places: &List<usize>,
+    sets: &List<(Name, Expr)>,
+    filter: &Option<Expr>,
+    context: &Context,
+    k: u32,
+) -> Result<Outcome, SqlFault>
+    requires { k ≤ 1000001 }
+    ensures made { Gives (λ m. (m.table, (m.next, m.count))) result (parts.set_rows columns.now table.now places.now sets.now filter.now context.entry.now k) }
+    ensures few { IfOk result (λ m. m.next ≤ 1000001) }
+{
+    let made = updated_rows(alloc, table, columns, context, filter, places, sets, k)?;
+    replaced(alloc, table, made)
+}
+
+// A table with other rows, where their keys differ.
+#[tactic(auto, unfolding(crate::specs::Parts::replaced))]
+fn replaced(alloc: Global, table: &Table, made: Updated) -> Result<Outcome, SqlFault>
+    requires { Rise 0 table.now.next made.rows }
+    ensures made { Gives (λ m. (m.table, (m.next, m.count))) result (parts.replaced table.now made.rows made.next made.met) }
+    ensures next { IfOk result (λ m. m.next ≡ made.next) }
+{
+    let after = with_rows(table, made.rows)?;
+    check_keys(alloc, &after)?;
+    Ok(Outcome {
+        table: after,
+        next: made.next,
+        count: made.met,
+    })
+}
+
+fn with_rows(table: &Table, rows: List<(u64, Row)>) -> Result<Table, SqlFault>
+    requires { Rise 0 table.now.next rows }
+    ensures table { IfOk result (λ made. made ≡ parts.with_rows table.now rows) }
+    ensures memory { IfErr result (λ e. e ≡ faults.Memory) }
+{
+    let columns = table.columns().copy()?;
+    Ok(Table::with_rows(table.version(), columns, table.next_number(), rows)?)
+}
+
+/// What a DELETE makes of its table.
+pub(crate) fn deleted(
+    alloc: Global,
+    table: &Table,
+    name: &Name,
+    filter: &Option<Expr>,
+    context: &Context,
+    k: u32,
+) -> Result<Outcome, SqlFault>
+    requires { k ≤ 1000001 }
+    ensures made { Gives (λ m. (m.table, (m.next, m.count))) result (parts.deleted name.now table.now filter.now context.entry.now k) }
+    ensures few { IfOk result (λ m. m.next ≤ 1000001) }
+{
+    let columns = own_columns(alloc, name, table.columns())?;
+    left_over(alloc, &columns, table, filter, context, k)
+}
+
+#[tactic(auto, unfolding(crate::specs::Parts::left_over))]
+fn left_over(
+    alloc: Global,
+    columns: &Columns,
+    table: &Table,
+    filter: &Option<Expr>,
+    context: &Context,
+    k: u32,
+) -> Result<Outcome, SqlFault>
+    requires { k ≤ 1000001 }
+    ensures made { Gives (λ m. (m.table, (m.next, m.count))) result (parts.left_over columns.now table.now filter.now context.entry.now k) }
+    ensures few { IfOk result (λ m. m.next ≤ 1000001) }
+{
+    filter_type(columns, filter)?;
+    let rows = remaining(alloc, table, columns, context, filter)?;
+    let count = table.len().saturating_sub(rows.len()) as u64;
+    Ok(Outcome {
+        table: with_rows(table, rows)?,
+        next: k,
+        count,
+    })
+}
