@@ -2,19 +2,15 @@
 """Time of a location and of a verification, as ratios to one SHA-256 of the same message, and for twice the length.
 
 What is timed is `dl_location::read_location` and `dl_token::verify`, for paths of 500 and of 1,000 bytes. A small program
-that only calls them stands below. For the time of the run it gets a repository of its own, with copies of the crates that
-it stands on and of what is kept of their proofs; the kit proves it and builds it there. The program goes many times over
-short loops of each call, in turn, and the best time of each counts, all in this one invocation. The status is 1 where twice
-the length takes more than 2.2 times the time.
+that only calls them stands below; `measured.py` has it proved, built and run. The program goes many times over short loops
+of each call, in turn, and the best time of each counts, all in this one invocation. The status is 1 where twice the length
+takes more than 2.2 times the time.
 """
-import pathlib
-import shutil
-import subprocess
 import sys
-import tempfile
 
-ROOT = pathlib.Path(__file__).resolve().parent.parent
-USED = ("dl_location", "dl_token")
+from measured import filled, told
+
+USED = ("anyhow", "dl_base", "dl_location", "dl_token", "sha2")
 LENGTHS = (500, 1_000)
 ROUNDS = 300
 CALLS = 100
@@ -158,50 +154,6 @@ fn main(rt: HostRuntime) -> anyhow::Result<()> {
 """
 
 
-def below(names):
-    """The lines of crates.txt for these crates and those of ours that they stand on, by name."""
-    lines = {}
-    for line in (ROOT / "crates.txt").read_text().splitlines():
-        name, colon, rest = line.partition(":")
-        if colon and not line.startswith("#"):
-            lines[name] = rest.split()
-    found, left = {}, list(names)
-    while left:
-        name = left.pop()
-        if name in lines and name not in found:
-            found[name] = lines[name]
-            left += lines[name]
-    return found
-
-
-def make(folder):
-    """Writes the repository of the program, and returns the program's folder."""
-    crates = below(USED)
-    for name in crates:
-        shutil.copytree(ROOT / "crates" / name, folder / "crates" / name)
-    crates["measure"] = ["anyhow", "dl_base", *USED, "sha2"]
-    (folder / "crates.txt").write_text("".join("%s: %s\n" % (name, " ".join(rest)) for name, rest in crates.items()))
-    text = PROGRAM
-    for word, value in (("@CALLS@", CALLS), ("@ROUNDS@", ROUNDS), ("@FIRST@", LENGTHS[0]), ("@SECOND@", LENGTHS[1])):
-        text = text.replace(word, str(value))
-    place = folder / "crates" / "measure"
-    (place / "src").mkdir(parents=True)
-    (place / "src" / "main.rt").write_text(text)
-    return place
-
-
-def told():
-    """What the program told: its lines, each as words."""
-    folder = pathlib.Path(tempfile.mkdtemp(prefix="datalinks-bench-"))
-    try:
-        run = subprocess.run(["rt", "run"], cwd=make(folder), stdin=subprocess.DEVNULL, capture_output=True, text=True, check=False)
-        if run.returncode != 0:
-            sys.exit(run.stdout + run.stderr + "the program was not proved, built or run")
-        return [line.split() for line in run.stdout.splitlines()]
-    finally:
-        shutil.rmtree(folder)
-
-
 def best(lines):
     """The best time of each call at each length; each location must have been read, and each token good."""
     times = {}
@@ -216,7 +168,8 @@ def best(lines):
 
 
 def main():
-    times = best(told())
+    values = {"CALLS": CALLS, "ROUNDS": ROUNDS, "FIRST": LENGTHS[0], "SECOND": LENGTHS[1]}
+    times = best(told(USED, filled(PROGRAM, values)))
     is_slow = False
     for what in ("location", "verification"):
         for length in LENGTHS:
