@@ -2,3 +2,4 @@ pub mod Loops
 pub mod Sources
 pub mod Parsed
 pub mod Places
+pub mod Reserving

@@ -8,6 +8,7 @@ ghost use Rattle.sql_grammar.specs.Reading.{statement_at};
 ghost use Rattle.sql_syntax.specs.declared.parser.ParseFault.{ParseFault as Fault};
 ghost use Rattle.sql_syntax.specs.declared.parser.ParseFault.TheVariants as fault;
 ghost use Rattle.sql_syntax.specs.Parsing.{begins_of, or_end, Parses, Agrees, Shown};
+ghost use Rattle.sql_syntax.specs.Reserving.{mark_of_nine};
 
 use crate::sentence::whole;
 use dl_base::{List, Memory, Stmt};
@@ -39,10 +40,10 @@ impl From<Memory> for ParseFault {
     }
 }
 
-// The mark of a reserved word.
-#[tactic(auto, unfolding(sql_grammar::specs::Proper::reserved_mark))]
-fn reserved(word: &[u8]) -> Option<Mark>
-    ensures { result ≡ reserved_mark word.now }
+// The mark of one of the reserved words from and to datalink.
+#[tactic(auto, unfolding(crate::specs::Reserving::mark_of_nine))]
+fn and_to_datalink(word: &[u8]) -> Option<Mark>
+    ensures { result ≡ mark_of_nine 0 word.now }
 {
     if same_bytes(word, b"and") {
         Some(Mark::And)
@@ -62,7 +63,17 @@ fn reserved(word: &[u8]) -> Option<Mark>
         Some(Mark::Create)
     } else if same_bytes(word, b"datalink") {
         Some(Mark::Datalink)
-    } else if same_bytes(word, b"delete") {
+    } else {
+        None
+    }
+}
+
+// The mark of one of the reserved words from delete to into.
+#[tactic(auto, unfolding(crate::specs::Reserving::mark_of_nine))]
+fn delete_to_into(word: &[u8]) -> Option<Mark>
+    ensures { result ≡ mark_of_nine 9 word.now }
+{
+    if same_bytes(word, b"delete") {
         Some(Mark::Delete)
     } else if same_bytes(word, b"desc") {
         Some(Mark::Desc)
@@ -80,7 +91,17 @@ fn reserved(word: &[u8]) -> Option<Mark>
         Some(Mark::Integer)
     } else if same_bytes(word, b"into") {
         Some(Mark::Into)
-    } else if same_bytes(word, b"is") {
+    } else {
+        None
+    }
+}
+
+// The mark of one of the reserved words from is to primary.
+#[tactic(auto, unfolding(crate::specs::Reserving::mark_of_nine))]
+fn is_to_primary(word: &[u8]) -> Option<Mark>
+    ensures { result ≡ mark_of_nine 18 word.now }
+{
+    if same_bytes(word, b"is") {
         Some(Mark::Is)
     } else if same_bytes(word, b"join") {
         Some(Mark::Join)
@@ -98,7 +119,17 @@ fn reserved(word: &[u8]) -> Option<Mark>
         Some(Mark::Order)
     } else if same_bytes(word, b"primary") {
         Some(Mark::Primary)
-    } else if same_bytes(word, b"rollback") {
+    } else {
+        None
+    }
+}
+
+// The mark of one of the reserved words from rollback to where.
+#[tactic(auto, unfolding(crate::specs::Reserving::mark_of_nine))]
+fn rollback_to_where(word: &[u8]) -> Option<Mark>
+    ensures { result ≡ mark_of_nine 27 word.now }
+{
+    if same_bytes(word, b"rollback") {
         Some(Mark::Rollback)
     } else if same_bytes(word, b"select") {
         Some(Mark::Select)
@@ -116,6 +147,23 @@ fn reserved(word: &[u8]) -> Option<Mark>
         Some(Mark::Where)
     } else {
         None
+    }
+}
+
+// The mark of a reserved word.
+#[tactic(auto, using(crate::proofs::Reserving::by_nines))]
+fn reserved(word: &[u8]) -> Option<Mark>
+    ensures { result ≡ reserved_mark word.now }
+{
+    match and_to_datalink(word) {
+        Some(mark) => Some(mark),
+        None => match delete_to_into(word) {
+            Some(mark) => Some(mark),
+            None => match is_to_primary(word) {
+                Some(mark) => Some(mark),
+                None => rollback_to_where(word),
+            },
+        },
     }
 }
 
