@@ -14,7 +14,7 @@ use Rattle.sql_syntax.specs.declared.parser.ParseFault.TheVariants as fault
 use Rattle.sql_grammar.specs.Meaning.{terminals, Means}
 use Rattle.sql_syntax.specs.Parsing.{place_in, IsSyntaxAt, Parses, Agrees, Shown}
 
-exact : (ws : List Terminal) → IsExactOf Statement ws (whole_at statement_at ws)
+pub exact : (ws : List Terminal) → IsExactOf Statement ws (whole_at statement_at ws)
 exact ws = exact_of statement_at Statement AtEnd ws has_statement reads_statement refl
 
 pub is_exact : (text : List ℕ) (xs : List Lexeme) (r : Result Stmt ParseFault) → Lexes 1 text xs → Shown text xs r (whole_at statement_at (terminals xs)) → Parses text r

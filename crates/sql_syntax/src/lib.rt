@@ -3,6 +3,7 @@
 
 mod changes;
 mod columns;
+mod laws;
 mod parser;
 mod part;
 mod query;
@@ -10,5 +11,6 @@ mod sentence;
 #[cfg(test)]
 mod tests;
 
+pub use laws::one_answer;
 pub use parser::{ParseFault, parse};
 pub use sql_print::{print, print_again};
