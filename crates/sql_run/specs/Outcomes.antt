@@ -1,5 +1,8 @@
 -- What a statement answers, and the tables after it.
 use Rattle.std.specs.Prelude.{ℕ, List, Result, Ok, Err}
+use Rattle.dl_base.specs.declared.answer.Answer.{Answer}
+use Rattle.dl_base.specs.declared.answer.Answer.TheVariants as answers
+use Rattle.dl_base.specs.declared.answer.Refusal.TheVariants as reasons
 use Rattle.dl_base.specs.declared.sql_fault.SqlFault.{SqlFault}
 use Rattle.dl_base.specs.declared.statement.Stmt.{Stmt}
 use Rattle.dl_base.specs.declared.statement.Stmt.TheVariants as statements
@@ -51,3 +54,10 @@ evaluated tables (statements.DropTable name) context k = after_change tables k d
 evaluated tables statements.Begin context k = record { outcome = outcomes.Done; tables = tables; next = k }
 evaluated tables statements.Commit context k = record { outcome = outcomes.Done; tables = tables; next = k }
 evaluated tables statements.Rollback context k = record { outcome = outcomes.Done; tables = tables; next = k }
+
+-- the answer that is told of an outcome
+abbrev pub answer_of : Outcome → Answer
+answer_of (outcomes.Changed count) = answers.Changed count
+answer_of (outcomes.Rows grid) = answers.Rows grid
+answer_of outcomes.Done = answers.Done
+answer_of (outcomes.Refused fault) = answers.Refused (reasons.Sql fault)

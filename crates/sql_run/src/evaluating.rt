@@ -2,9 +2,9 @@
 ghost use Rattle.std.specs.Prelude.{◌≡◌, ◌≢◌, ◌≤◌, IfOk, OnErr, Err};
 ghost use Rattle.dl_base.specs.declared.sql_fault.SqlFault.TheVariants as faults;
 ghost use Rattle.sql_run.specs.declared.evaluating.Outcome.TheVariants as outcomes;
-ghost use Rattle.sql_run.specs.Outcomes.{Evaluated, evaluated, counted, done, rows_answered};
+ghost use Rattle.sql_run.specs.Outcomes.{Evaluated, evaluated, answer_of, counted, done, rows_answered};
 
-use dl_base::{Grid, Memory, SqlFault, Stmt};
+use dl_base::{Answer, Grid, Memory, Refusal, SqlFault, Stmt};
 use meaning_sql::Context;
 use sql_change::change;
 use sql_query::select;
@@ -22,6 +22,18 @@ pub enum Outcome {
     Done,
     /// Why nothing is changed; never that there was no memory.
     Refused(SqlFault),
+}
+
+/// The answer that is told of an outcome.
+pub fn answer_of(outcome: Outcome) -> Answer
+    ensures { result ≡ answer_of outcome }
+{
+    match outcome {
+        Outcome::Changed(count) => Answer::Changed(count),
+        Outcome::Rows(grid) => Answer::Rows(grid),
+        Outcome::Done => Answer::Done,
+        Outcome::Refused(fault) => Answer::Refused(Refusal::Sql(fault)),
+    }
 }
 
 /// Carries out a statement over tables, and gives its outcome. CREATE TABLE and DROP TABLE are `Done`. BEGIN, COMMIT and ROLLBACK

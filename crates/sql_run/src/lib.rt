@@ -1,6 +1,6 @@
-//! One statement over tables in memory, and its outcome.
+//! One statement over tables in memory, its outcome, and the answer that is told of it.
 #![tactic(auto)]
 
 mod evaluating;
 
-pub use evaluating::{Outcome, evaluate};
+pub use evaluating::{Outcome, answer_of, evaluate};
