@@ -10,14 +10,13 @@ use Rattle.dl_base.specs.declared.value.Value.TheVariants as values
 use Rattle.dl_base.specs.declared.value.Dl.{Dl}
 use Rattle.dl_base.specs.declared.value.LinkNo.{LinkNo}
 use Rattle.dl_base.specs.declared.column.Options.{Options}
-use Rattle.dl_base.specs.declared.column.ReadBy.{ReadBy}
-use Rattle.dl_base.specs.declared.column.ReadBy.TheVariants as read
 use Rattle.dl_base.specs.declared.statement.Part.{Part}
 use Rattle.dl_base.specs.declared.statement.Part.TheVariants as parts
 use Rattle.dl_location.specs.declared.accessor.Accessor.TheVariants as accessors
 use Rattle.dl_location.specs.Accessors.{accessor_text}
 use Rattle.dl_location.specs.Location.{location}
 use Rattle.meaning_files.specs.Tokens.{with_token, token, expiry_after}
+use Rattle.meaning_tables.specs.OptionRows.{is_db}
 use Rattle.meaning_sql.specs.declared.Context.{Context}
 
 -- a link type: `URL` in any case of letters, and NULL counts as it
@@ -46,10 +45,6 @@ datalink server (values.Text t) linktype comment = linked (location server t) (i
 datalink server values.Null linktype comment = Ok values.Null
 datalink server (values.Int z) linktype comment = Ok values.Null
 datalink server (values.Link d) linktype comment = Ok values.Null
-
-abbrev pub is_db : ReadBy → Bool
-is_db read.Fs = false
-is_db read.Db = true
 
 -- the column is under READ DB
 abbrev pub is_guarded : Option Options → Bool

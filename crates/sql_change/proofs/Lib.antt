@@ -5,7 +5,5 @@ pub mod KeyPlaces
 pub mod Naming
 pub mod Numbering
 pub mod Reversed
-pub mod Rising
 pub mod StoodKeys
 pub mod Whole
-pub mod OneUpdated

@@ -9,7 +9,7 @@ use Rattle.meaning_sql.specs.declared.Context.{Context}
 use Rattle.meaning_sql.specs.Columns.{Columns}
 use Rattle.meaning_sql.specs.Faults.{◌>>=◌, next}
 use Rattle.meaning_statements.specs.Changing.{inserted_row, inserted_rows}
-use Rattle.sql_change.specs.NewRows.{tuple_rows, counted}
+use Rattle.sql_rows.specs.NewRows.{tuple_rows, counted}
 
 abbrev numbered_behind : ℕ → List Value → List (ℕ × Row) × ℕ → Result (List (ℕ × Row) × ℕ) SqlFault
 numbered_behind number values rest = Ok ((number, record { values = values }) ∷ rest.0, rest.1)

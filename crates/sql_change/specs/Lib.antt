@@ -1,4 +1,3 @@
 pub mod Steps
-pub mod NewRows
 pub mod Parts
 pub mod Keys

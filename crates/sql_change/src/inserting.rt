@@ -3,15 +3,15 @@ ghost use Rattle.std.specs.Prelude.{◌≡◌, ◌+◌, ◌<◌, ◌≤◌, ◌^
 ghost use Rattle.dl_base.specs.declared.sql_fault.SqlFault.TheVariants as faults;
 ghost use Rattle.meaning_sql.specs.Faults.{Gives};
 ghost use Rattle.meaning_statements.specs.Changing as meant;
-ghost use Rattle.sql_change.specs.NewRows.{counted};
+ghost use Rattle.sql_rows.specs.NewRows.{counted};
 ghost use Rattle.sql_change.specs.Parts as parts;
 
 use crate::changing::Outcome;
 use crate::keys::check_keys;
 use crate::places::{check_all_types, check_lengths, target_places, tuple_types};
-use crate::rows::{NewRows, tuple_rows, with_more};
 use dl_base::{Copied, Expr, Limit, List, Name, Row, SqlFault};
 use sql_expr::{Columns, Context};
+use sql_rows::{NewRows, tuple_rows, with_more};
 use sql_table::Table;
 use std::alloc::Global;
 

@@ -9,10 +9,10 @@ ghost use Rattle.sql_change.specs.Parts as parts;
 use crate::changing::Outcome;
 use crate::keys::check_keys;
 use crate::places::{check_types, own_columns, set_names, set_places, types_of_sets};
-use crate::rows::{Updated, remaining, updated_rows};
 use dl_base::{Copied, Expr, List, Name, Row, SqlFault};
 use sql_condition::filter_type;
 use sql_expr::{Columns, Context};
+use sql_rows::{Updated, remaining, updated_rows};
 use sql_table::Table;
 use std::alloc::Global;
 

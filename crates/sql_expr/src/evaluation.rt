@@ -1,5 +1,5 @@
 // The value of an expression.
-ghost use Rattle.std.specs.Prelude.{◌≡◌, ◌<◌, ◌^◌, [], length, map, not, pos, Ok, Option, if◌then◌else◌};
+ghost use Rattle.std.specs.Prelude.{◌≡◌, ◌<◌, ◌^◌, [], length, map, not, pos, IfOk, Ok, Option, if◌then◌else◌};
 ghost use Rattle.dl_base.specs.declared.column.Options.{Options};
 ghost use Rattle.meaning_sql.specs.Columns as columns_meant;
 ghost use Rattle.meaning_sql.specs.Datalinks as links_meant;
@@ -12,7 +12,9 @@ use crate::columns::{kind_at, options_of, place_of};
 use crate::datalinks::{accessed, datalink};
 use crate::operator::{Ask, binary, left_side, negated};
 use crate::truth::{is_null, not3, of_truth, truth_of};
-use dl_base::{Copied, Expr, Fold, List, Op, Options, Part, Ref, Row, SqlFault, Text, Value};
+use dl_base::{
+    Copied, Expr, Fold, List, Memory, Op, Options, Part, Ref, Row, SqlFault, Text, Value,
+};
 use meaning_sql::{Columns, Context};
 use std::alloc::Global;
 
@@ -43,6 +45,17 @@ pub fn evaluate(
     ensures { Gives (λ v. v) result (meaning columns.now context.entry.now group.now expr.now row.now) }
 {
     value_over(alloc, expr, row, columns, context, group.as_slice())
+}
+
+/// The value at a place from 0 of a row; NULL past its end.
+#[tactic(auto, unfolding(meaning_sql::specs::Values::cell))]
+pub fn cell(row: &Row, place: usize) -> Result<Value, Memory>
+    ensures { IfOk result (λ v. v ≡ cell row.now place) }
+{
+    match row.values.at(place) {
+        Some(x) => x.copy(),
+        None => Ok(Value::Null),
+    }
 }
 
 #[tactic(auto, unfolding(meaning_sql::specs::Operators::gathered))]
@@ -152,17 +165,7 @@ fn column_value(row: &Row, columns: &Columns, column: &Ref) -> Result<Value, Sql
     ensures { Gives (λ v. v) result (next (columns_meant.place_of columns.now column.now) (λ i. Ok (cell row.now i))) }
 {
     let place = place_of(columns, column)?;
-    cell(row, place)
-}
-
-#[tactic(auto, unfolding(meaning_sql::specs::Values::cell))]
-fn cell(row: &Row, place: usize) -> Result<Value, SqlFault>
-    ensures { Gives (λ v. v) result (Ok (cell row.now place)) }
-{
-    match row.values.at(place) {
-        Some(x) => Ok(x.copy()?),
-        None => Ok(Value::Null),
-    }
+    Ok(cell(row, place)?)
 }
 
 fn negation(x: Result<Value, SqlFault>) -> Result<Value, SqlFault>

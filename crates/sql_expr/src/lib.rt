@@ -16,6 +16,7 @@ mod types;
 
 pub use checking::{check, check_in};
 pub use columns::place_of;
-pub use evaluation::{evaluate, value};
+pub use evaluation::{cell, evaluate, value};
 pub use laws::values_are_of_the_type;
 pub use meaning_sql::{Columns, Context, SqlType, Standing};
+pub use types::kind_type;

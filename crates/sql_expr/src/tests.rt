@@ -1,25 +1,22 @@
-//! Each line of a table is the number of a row, an expression with its operators behind their operands, and its answer: the
-//! type and the value, or the refusal of one of the two.
-mod reader;
-mod tables;
-mod teller;
-
-use crate::{Columns, Context, Standing, check, check_in, evaluate, place_of, value};
-use dl_base::{
-    Column, ColumnRule, Dl, Kind, LinkNo, List, OnUnlink, Options, Path, ReadBy, Ref, Row, Text,
-    Value, WriteBy, is_path,
+//! What no statement reaches: an aggregate and a column beside one another in an item without groups, the type of a condition
+//! that is an item, a column over no rows, a datalink whose location DLVALUE never makes, and the greatest moment.
+use crate::{
+    Columns, Context, SqlType, Standing, cell, check, check_in, evaluate, place_of, value,
 };
-use reader::{expr_of, name_of};
+use dl_base::{
+    Boxed, Column, ColumnRule, Dl, Expr, Fold, Kind, LinkNo, List, Memory, Name, OnUnlink, Op,
+    Options, Part, Path, ReadBy, Ref, Row, SqlFault, Text, Value, WriteBy, is_name, is_path,
+};
 use std::alloc::Global;
 use std::process::Abort;
 use std::test::Fail;
-use tables::{
-    ACCESSORS, AGGREGATES, ARITHMETIC, BREACHES, COMPARISON, DATALINKS, LEAVES_AND_COLUMNS,
-    STANDINGS, TRUTH,
-};
-use teller::{put_fault, put_value, type_word};
 
-fn context(rt: &impl Abort, alloc: Global, now: u64) -> Result<Context, Fail> {
+fn name_of(rt: &impl Abort, alloc: Global, name: &str) -> Result<Name, Memory> {
+    assert!(rt; is_name(name.as_bytes()));
+    Name::of(alloc, name.as_bytes())
+}
+
+fn context(rt: &impl Abort, alloc: Global, now: u64) -> Result<Context, Memory> {
     Ok(Context {
         server: name_of(rt, alloc, "fs1")?,
         key: [0; 32],
@@ -29,287 +26,233 @@ fn context(rt: &impl Abort, alloc: Global, now: u64) -> Result<Context, Fail> {
     })
 }
 
-fn linked(read: ReadBy) -> Kind {
+fn linked() -> Kind {
     Kind::Linked(Options {
-        read,
+        read: ReadBy::Db,
         write: WriteBy::Blocked,
         recovery: false,
         unlink: OnUnlink::Restore,
     })
 }
 
-fn put_column(
+fn column_of(
     rt: &impl Abort,
     alloc: Global,
-    columns: &mut Columns,
     source: &str,
     name: &str,
     kind: Kind,
-) -> Result<(), Fail> {
+) -> Result<(Name, Column), Memory> {
     let column = Column {
         name: name_of(rt, alloc, name)?,
         kind,
         rule: ColumnRule::Plain,
     };
-    assert!(rt; columns.push((name_of(rt, alloc, source)?, column)).is_ok());
-    Ok(())
+    Ok((name_of(rt, alloc, source)?, column))
 }
 
-// The columns i, s, d under READ DB, e under READ FS, h without control and o under READ DB of t, and i of u.
-fn columns(rt: &impl Abort, alloc: Global) -> Result<Columns, Fail> {
+// The columns i, s, and d under READ DB of t, and i of u.
+fn columns(rt: &impl Abort, alloc: Global) -> Result<Columns, Memory> {
     let mut columns = List::empty(alloc);
-    put_column(rt, alloc, &mut columns, "t", "i", Kind::Int)?;
-    put_column(rt, alloc, &mut columns, "t", "s", Kind::Text(10))?;
-    put_column(rt, alloc, &mut columns, "t", "d", linked(ReadBy::Db))?;
-    put_column(rt, alloc, &mut columns, "t", "e", linked(ReadBy::Fs))?;
-    put_column(rt, alloc, &mut columns, "t", "h", Kind::Free)?;
-    put_column(rt, alloc, &mut columns, "t", "o", linked(ReadBy::Db))?;
-    put_column(rt, alloc, &mut columns, "u", "i", Kind::Int)?;
+    columns.push(column_of(rt, alloc, "t", "i", Kind::Int)?)?;
+    columns.push(column_of(rt, alloc, "t", "s", Kind::Text(10))?)?;
+    columns.push(column_of(rt, alloc, "t", "d", linked())?)?;
+    columns.push(column_of(rt, alloc, "u", "i", Kind::Int)?)?;
     Ok(columns)
 }
 
-fn link_value(rt: &impl Abort, alloc: Global, location: &str, k: u32) -> Result<Value, Fail> {
+// 5, `abc`, link 1 of a location with the path `/x/a`, and 9.
+fn row(rt: &impl Abort, alloc: Global, location: &str) -> Result<Row, Memory> {
     let path = "/x/a".as_bytes();
     assert!(rt; is_path(path));
-    let tx = 0x1_0000_0002;
-    Ok(Value::Link(Dl {
+    let link = LinkNo {
+        tx: 0x1_0000_0002,
+        k: 1,
+    };
+    let mut values = List::empty(alloc);
+    values.push(Value::Int(5))?;
+    values.push(Value::Text(Text::of(alloc, "abc".as_bytes())?))?;
+    values.push(Value::Link(Dl {
         location: Text::of(alloc, location.as_bytes())?,
         path: Path::of(alloc, path)?,
         comment: Text::of(alloc, "note".as_bytes())?,
-        link: if k == 0 { None } else { Some(LinkNo { tx, k }) },
+        link: Some(link),
+    }))?;
+    values.push(Value::Int(9))?;
+    Ok(Row { values })
+}
+
+fn column(rt: &impl Abort, alloc: Global, name: &str) -> Result<Expr, Memory> {
+    Ok(Expr::Column(Ref {
+        table: None,
+        column: name_of(rt, alloc, name)?,
     }))
 }
 
-fn put(rt: &impl Abort, row: &mut Row, value: Value) {
-    assert!(rt; row.values.push(value).is_ok());
+// The column i of t.
+fn number(rt: &impl Abort, alloc: Global) -> Result<Expr, Memory> {
+    Ok(Expr::Column(Ref {
+        table: Some(name_of(rt, alloc, "t")?),
+        column: name_of(rt, alloc, "i")?,
+    }))
 }
 
-// The values of t and u of row 0; in row 1 each of them is NULL.
-fn row_of(rt: &impl Abort, alloc: Global, number: &str) -> Result<Row, Fail> {
-    let mut row = Row {
-        values: List::empty(alloc),
-    };
-    if number == "1" {
-        for _ in 0..7 {
-            put(rt, &mut row, Value::Null);
-        }
-        return Ok(row);
-    }
-    put(rt, &mut row, Value::Int(5));
-    put(
-        rt,
-        &mut row,
-        Value::Text(Text::of(alloc, "abc".as_bytes())?),
-    );
-    put(rt, &mut row, link_value(rt, alloc, "http://fs1/x/a", 1)?);
-    put(rt, &mut row, link_value(rt, alloc, "http://fs1/x/a", 2)?);
-    put(rt, &mut row, link_value(rt, alloc, "file://fs1/x/a", 0)?);
-    put(rt, &mut row, link_value(rt, alloc, "nowhere", 1)?);
-    put(rt, &mut row, Value::Int(9));
-    Ok(row)
+fn folded(alloc: Global, fold: Fold, inner: Expr) -> Result<Expr, Memory> {
+    Ok(Expr::Aggregate(fold, Boxed::new(alloc, inner)?))
 }
 
-// The type and the value at a row, or the refusal.
-fn told(
-    rt: &impl Abort,
-    alloc: Global,
-    columns: &Columns,
-    row: &Row,
-    text: &str,
-) -> Result<Vec<u8>, Fail> {
-    let expr = expr_of(rt, alloc, text)?;
-    let context = context(rt, alloc, 100)?;
-    let mut into = Vec::new(alloc);
-    match check(&expr, columns) {
-        Err(fault) => put_fault(alloc, &mut into, &fault)?,
-        Ok(t) => match value(alloc, &expr, row, columns, &context) {
-            Err(fault) => put_fault(alloc, &mut into, &fault)?,
-            Ok(value) => {
-                into.extend_from_slice(type_word(t).as_bytes())?;
-                into.push(b' ')?;
-                put_value(alloc, &mut into, &value)?;
-            }
-        },
-    }
-    Ok(into)
+fn binary(alloc: Global, op: Op, left: Expr, right: Expr) -> Result<Expr, Memory> {
+    Ok(Expr::Binary(op, Boxed::new(alloc, left)?, Boxed::new(alloc, right)?))
 }
 
-// Each line of the table gives its answer.
-fn run(rt: &impl Abort, alloc: Global, table: &str) -> Result<(), Fail> {
-    let columns = columns(rt, alloc)?;
-    for line in table.split('\n') {
-        if let Some((number, rest)) = line.split_once(" | ") {
-            let row = row_of(rt, alloc, number)?;
-            match rest.split_once(" | ") {
-                None => panic!(rt; "no answer: {line}"),
-                Some((text, answer)) => {
-                    let got = told(rt, alloc, &columns, &row, text)?;
-                    assert!(rt; got.as_slice() == answer.as_bytes(), "at {line}");
-                }
+fn access(rt: &impl Abort, alloc: Global, part: Part) -> Result<Expr, Memory> {
+    Ok(Expr::Access(part, Boxed::new(alloc, column(rt, alloc, "d")?)?))
+}
+
+fn word(told: &Result<SqlType, SqlFault>) -> &'static str {
+    match told {
+        Ok(SqlType::Int) => "INT",
+        Ok(SqlType::Text) => "TEXT",
+        Ok(SqlType::Link) => "LINK",
+        Ok(SqlType::Truth) => "TRUTH",
+        Ok(SqlType::Null) => "NULL",
+        Err(SqlFault::TypeFault) => "type",
+        Err(SqlFault::NoColumn(name)) => {
+            if name.bytes() == "q".as_bytes() {
+                "no q"
+            } else {
+                "another"
             }
         }
+        Err(_) => "another",
     }
-    Ok(())
+}
+
+// Where aggregates and columns may stand beside one another, an expression has this type.
+fn check_item(rt: &impl Abort, columns: &Columns, expr: Expr, wanted: &str) {
+    let told = check(&expr, columns);
+    assert!(rt; word(&told) == wanted);
 }
 
 #[test]
-fn leaves_and_columns(rt: HostRuntime) -> Result<(), Fail> {
-    run(&rt, rt.alloc(), LEAVES_AND_COLUMNS)
-}
-
-#[test]
-fn arithmetic(rt: HostRuntime) -> Result<(), Fail> {
-    run(&rt, rt.alloc(), ARITHMETIC)
-}
-
-#[test]
-fn comparison(rt: HostRuntime) -> Result<(), Fail> {
-    run(&rt, rt.alloc(), COMPARISON)
-}
-
-#[test]
-fn truth(rt: HostRuntime) -> Result<(), Fail> {
-    run(&rt, rt.alloc(), TRUTH)
-}
-
-#[test]
-fn breaches(rt: HostRuntime) -> Result<(), Fail> {
-    run(&rt, rt.alloc(), BREACHES)
-}
-
-#[test]
-fn datalinks(rt: HostRuntime) -> Result<(), Fail> {
-    run(&rt, rt.alloc(), DATALINKS)
-}
-
-#[test]
-fn accessors(rt: HostRuntime) -> Result<(), Fail> {
-    run(&rt, rt.alloc(), ACCESSORS)
-}
-
-// The values of the column i of t in a group of rows, each of them NULL but for i.
-fn group_of(rt: &impl Abort, alloc: Global, numbers: &str) -> Result<List<Row>, Fail> {
-    let mut group = List::empty(alloc);
-    for word in numbers.split_whitespace() {
-        let mut row = Row {
-            values: List::empty(alloc),
-        };
-        match word.parse::<i64>() {
-            Ok(number) => put(rt, &mut row, Value::Int(number)),
-            Err(_) => put(rt, &mut row, Value::Null),
-        }
-        put(rt, &mut row, Value::Text(Text::of(alloc, word.as_bytes())?));
-        assert!(rt; group.push(row).is_ok());
-    }
-    Ok(group)
-}
-
-fn told_over(
-    rt: &impl Abort,
-    alloc: Global,
-    group: &List<Row>,
-    text: &str,
-) -> Result<Vec<u8>, Fail> {
-    let expr = expr_of(rt, alloc, text)?;
-    let columns = columns(rt, alloc)?;
-    let context = context(rt, alloc, 100)?;
-    let row = row_of(rt, alloc, "0")?;
-    let mut into = Vec::new(alloc);
-    match evaluate(alloc, &expr, &row, &columns, &context, group) {
-        Err(fault) => put_fault(alloc, &mut into, &fault)?,
-        Ok(value) => put_value(alloc, &mut into, &value)?,
-    }
-    Ok(into)
-}
-
-// Each line is the numbers of a group, an expression, and its value.
-#[test]
-fn aggregates(rt: HostRuntime) -> Result<(), Fail> {
-    let alloc = rt.alloc();
-    for line in AGGREGATES.split('\n') {
-        if let Some((numbers, rest)) = line.split_once(" | ") {
-            let group = group_of(&rt, alloc, numbers)?;
-            match rest.split_once(" | ") {
-                None => panic!(&rt; "no answer: {line}"),
-                Some((text, answer)) => {
-                    let got = told_over(&rt, alloc, &group, text)?;
-                    assert!(rt; got.as_slice() == answer.as_bytes(), "at {line}");
-                }
-            }
-        }
-    }
-    Ok(())
-}
-
-// The type where that may stand, or the refusal.
-fn told_in(
-    rt: &impl Abort,
-    alloc: Global,
-    standing: &Standing,
-    text: &str,
-) -> Result<Vec<u8>, Fail> {
-    let expr = expr_of(rt, alloc, text)?;
-    let columns = columns(rt, alloc)?;
-    let mut into = Vec::new(alloc);
-    match check_in(&expr, &columns, standing) {
-        Err(fault) => put_fault(alloc, &mut into, &fault)?,
-        Ok(t) => into.extend_from_slice(type_word(t).as_bytes())?,
-    }
-    Ok(into)
-}
-
-// Each line is W as in WHERE, I as in an item or G as in an item of a query that is grouped by s, an expression, and its type.
-#[test]
-fn standings(rt: HostRuntime) -> Result<(), Fail> {
-    let alloc = rt.alloc();
-    for line in STANDINGS.split('\n') {
-        if let Some((letter, rest)) = line.split_once(" | ") {
-            let mut places = List::empty(alloc);
-            assert!(rt; places.push(1usize).is_ok());
-            let standing = match letter {
-                "W" => Standing::Row,
-                "I" => Standing::Item,
-                _ => Standing::Grouped(places),
-            };
-            match rest.split_once(" | ") {
-                None => panic!(&rt; "no answer: {line}"),
-                Some((text, answer)) => {
-                    let got = told_in(&rt, alloc, &standing, text)?;
-                    assert!(rt; got.as_slice() == answer.as_bytes(), "at {line}");
-                }
-            }
-        }
-    }
-    Ok(())
-}
-
-// The digits are those of HMAC over `/x/a`, 0, `1-2-1`, 0 and the greatest number of 64 bits.
-#[test]
-fn greatest_expiry(rt: HostRuntime) -> Result<(), Fail> {
+fn items_without_groups(rt: HostRuntime) -> Result<(), Fail> {
     let alloc = rt.alloc();
     let columns = columns(&rt, alloc)?;
-    let context = context(&rt, alloc, u64::MAX - 1)?;
-    let expr = expr_of(&rt, alloc, "d PATH")?;
-    let row = row_of(&rt, alloc, "0")?;
-    let want = "/x/18446744073709551615.52aa6d5f75f9f5ed72e65bf02a7aa056;a".as_bytes();
-    match value(alloc, &expr, &row, &columns, &context) {
-        Ok(Value::Text(text)) => assert!(rt; text.bytes() == want),
+    check_item(&rt, &columns, Expr::CountAll, "INT");
+    let sum = folded(alloc, Fold::Sum, number(&rt, alloc)?)?;
+    check_item(&rt, &columns, sum, "INT");
+    let least = folded(alloc, Fold::Min, column(&rt, alloc, "s")?)?;
+    check_item(&rt, &columns, least, "TEXT");
+    let sum_of_null = folded(alloc, Fold::Sum, Expr::Null)?;
+    check_item(&rt, &columns, sum_of_null, "INT");
+    let least_null = folded(alloc, Fold::Min, Expr::Null)?;
+    check_item(&rt, &columns, least_null, "NULL");
+    let unknown = folded(alloc, Fold::Sum, column(&rt, alloc, "q")?)?;
+    check_item(&rt, &columns, unknown, "no q");
+    Ok(())
+}
+
+#[test]
+fn items_beside_columns(rt: HostRuntime) -> Result<(), Fail> {
+    let alloc = rt.alloc();
+    let columns = columns(&rt, alloc)?;
+    let greatest = folded(alloc, Fold::Max, number(&rt, alloc)?)?;
+    let beside = binary(alloc, Op::Add, number(&rt, alloc)?, greatest)?;
+    check_item(&rt, &columns, beside, "INT");
+    let sum = folded(alloc, Fold::Sum, number(&rt, alloc)?)?;
+    let twice = folded(alloc, Fold::Max, sum)?;
+    check_item(&rt, &columns, twice, "type");
+    let greatest_path = folded(alloc, Fold::Max, access(&rt, alloc, Part::Path)?)?;
+    check_item(&rt, &columns, greatest_path, "TEXT");
+    Ok(())
+}
+
+// A condition is no item, but `check_in` tells its type: here with s as a grouping column.
+#[test]
+fn condition_over_groups(rt: HostRuntime) -> Result<(), Fail> {
+    let alloc = rt.alloc();
+    let columns = columns(&rt, alloc)?;
+    let mut places = List::empty(alloc);
+    places.push(1usize)?;
+    let text = Expr::Literal(Text::of(alloc, "a".as_bytes())?);
+    let same = binary(alloc, Op::Eq, column(&rt, alloc, "s")?, text)?;
+    let told = check_in(&same, &columns, &Standing::Grouped(places));
+    assert!(rt; word(&told) == "TRUTH");
+    Ok(())
+}
+
+#[test]
+fn column_over_no_rows(rt: HostRuntime) -> Result<(), Fail> {
+    let alloc = rt.alloc();
+    let columns = columns(&rt, alloc)?;
+    let context = context(&rt, alloc, 100)?;
+    let row = row(&rt, alloc, "http://fs1/x/a")?;
+    let expr = column(&rt, alloc, "s")?;
+    let group = List::empty(alloc);
+    match evaluate(alloc, &expr, &row, &columns, &context, &group) {
+        Ok(Value::Text(text)) => assert!(rt; text.bytes() == "abc".as_bytes()),
         _ => panic!(&rt; "no text"),
     }
     Ok(())
 }
 
+// What an accessor of d tells at a moment, link 1 being of a location with the path `/x/a`.
+fn check_access(
+    rt: &impl Abort,
+    alloc: Global,
+    location: &str,
+    now: u64,
+    part: Part,
+    wanted: &str,
+) -> Result<(), Memory> {
+    let columns = columns(rt, alloc)?;
+    let context = context(rt, alloc, now)?;
+    let row = row(rt, alloc, location)?;
+    match value(alloc, &access(rt, alloc, part)?, &row, &columns, &context) {
+        Ok(Value::Text(text)) => assert!(rt; text.bytes() == wanted.as_bytes()),
+        _ => panic!(rt; "no text"),
+    }
+    Ok(())
+}
+
+// The digits are those of HMAC over `/x/a`, 0, `1-2-1`, 0 and the moment before the dot, under a key of zeros.
 #[test]
-fn places(rt: HostRuntime) -> Result<(), Fail> {
+fn tokens(rt: HostRuntime) -> Result<(), Fail> {
+    let alloc = rt.alloc();
+    let path = "/x/160.c721e50de341f85cb6a4f1861251b86d;a";
+    check_access(&rt, alloc, "http://fs1/x/a", 100, Part::Path, path)?;
+    let location = "http://fs1/x/160.c721e50de341f85cb6a4f1861251b86d;a";
+    check_access(&rt, alloc, "http://fs1/x/a", 100, Part::Complete, location)?;
+    let last = "/x/18446744073709551615.52aa6d5f75f9f5ed72e65bf02a7aa056;a";
+    check_access(&rt, alloc, "http://fs1/x/a", u64::MAX - 1, Part::Path, last)?;
+    Ok(())
+}
+
+#[test]
+fn location_that_is_none(rt: HostRuntime) -> Result<(), Fail> {
+    let alloc = rt.alloc();
+    let path = "/x/160.c721e50de341f85cb6a4f1861251b86d;a";
+    check_access(&rt, alloc, "nowhere", 100, Part::Path, path)?;
+    let location = "160.c721e50de341f85cb6a4f1861251b86d;nowhere";
+    check_access(&rt, alloc, "nowhere", 100, Part::Complete, location)?;
+    check_access(&rt, alloc, "nowhere", 100, Part::Scheme, "")?;
+    check_access(&rt, alloc, "nowhere", 100, Part::Server, "")?;
+    Ok(())
+}
+
+#[test]
+fn places_and_cells(rt: HostRuntime) -> Result<(), Fail> {
     let alloc = rt.alloc();
     let columns = columns(&rt, alloc)?;
+    let row = row(&rt, alloc, "http://fs1/x/a")?;
     let column = Ref {
-        table: None,
-        column: name_of(&rt, alloc, "h")?,
+        table: Some(name_of(&rt, alloc, "u")?),
+        column: name_of(&rt, alloc, "i")?,
     };
     match place_of(&columns, &column) {
-        Ok(place) => assert_eq!(rt; place, 4),
+        Ok(place) => assert_eq!(rt; place, 3),
         Err(_) => panic!(&rt; "no place"),
     }
+    assert!(rt; matches!(cell(&row, 3)?, Value::Int(9)));
+    assert!(rt; matches!(cell(&row, 4)?, Value::Null));
     Ok(())
 }

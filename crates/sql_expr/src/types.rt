@@ -100,7 +100,8 @@ fn is_among(places: &[usize], place: usize) -> bool
     places.iter().any(|j| *j == place)
 }
 
-pub(crate) fn kind_type(kind: Kind) -> SqlType
+/// The type of the cells of a column.
+pub fn kind_type(kind: Kind) -> SqlType
     ensures { result ≡ meaning.kind_type kind }
 {
     match kind {

@@ -12,12 +12,11 @@ ghost use Rattle.meaning_statements.specs.Selecting as meant;
 ghost use Rattle.sql_query.specs.Grouping.{key_at, known_places, row_grouped, rows_grouped};
 
 use crate::group_key::GroupKey;
-use crate::items::kind_type;
 use crate::keys::is_key;
 use dl_base::{Expr, Item, List, Memory, Ref, Row, Select, SqlFault};
 use indexmap::IndexMap;
 use meaning_sql::{Columns, SqlType, Standing};
-use sql_expr::place_of;
+use sql_expr::{kind_type, place_of};
 use std::alloc::Global;
 use std::collections::VecDeque;
 

@@ -4,14 +4,13 @@ ghost use Rattle.std.specs.List.{list_any};
 ghost use Rattle.meaning_sql.specs.Columns.{only_one};
 ghost use Rattle.meaning_sql.specs.Faults.{Gives, typed};
 ghost use Rattle.meaning_sql.specs.Types as types_meant;
-ghost use Rattle.meaning_sql.specs.Values.{cell};
 ghost use Rattle.meaning_statements.specs.Lists.{each, option_list};
 ghost use Rattle.meaning_statements.specs.Selecting as meant;
 ghost use Rattle.sql_query.specs.Items as shown;
 
-use dl_base::{Column, Copied, Expr, Item, Kind, List, Memory, Name, Row, SqlFault, Value};
+use dl_base::{Column, Expr, Item, List, Memory, Name, Row, SqlFault, Value};
 use meaning_sql::{Columns, Context, SqlType, Standing};
-use sql_expr::{check_in, evaluate};
+use sql_expr::{cell, check_in, evaluate, kind_type};
 use std::alloc::Global;
 
 /// The types of what is shown, or the first breach.
@@ -51,18 +50,6 @@ pub(crate) fn star_type(column: &Column, standing: &Standing) -> Result<SqlType,
         Standing::Grouped(_) => Err(SqlFault::TypeFault),
         Standing::Row => Ok(kind_type(column.kind)),
         Standing::Item => Ok(kind_type(column.kind)),
-    }
-}
-
-/// The type of the cells of a column.
-pub(crate) fn kind_type(kind: Kind) -> SqlType
-    ensures { result ≡ types_meant.kind_type kind }
-{
-    match kind {
-        Kind::Int => SqlType::Int,
-        Kind::Text(_) => SqlType::Text,
-        Kind::Free => SqlType::Link,
-        Kind::Linked(_) => SqlType::Link,
     }
 }
 
@@ -122,17 +109,6 @@ fn star_cells(alloc: Global, columns: &Columns, row: &Row) -> Result<Row, Memory
         values.push(cell(row, i)?)?;
     }
     Ok(Row { values })
-}
-
-/// The value at a place from 0 of a row.
-#[tactic(auto, unfolding(meaning_sql::specs::Values::cell))]
-pub(crate) fn cell(row: &Row, place: usize) -> Result<Value, Memory>
-    ensures { IfOk result (λ made. made ≡ cell row.now place) }
-{
-    match row.values.at(place) {
-        Some(x) => x.copy(),
-        None => Ok(Value::Null),
-    }
 }
 
 fn listed_cells(

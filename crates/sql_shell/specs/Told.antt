@@ -1,5 +1,5 @@
 -- What is told of a line, and the tables after it.
-use Rattle.std.specs.Prelude.{◌≡◌, ℕ, List, [], Result, Ok, Err}
+use Rattle.std.specs.Prelude.{◌≡◌, ℕ, ◌^◌, List, [], codes, replicate, Result, Ok, Err}
 use Rattle.dl_base.specs.declared.answer.Answer.{Answer}
 use Rattle.dl_base.specs.declared.answer.Answer.TheVariants as answers
 use Rattle.dl_base.specs.declared.answer.Refusal.TheVariants as reasons
@@ -7,23 +7,20 @@ use Rattle.dl_base.specs.declared.statement.Stmt.{Stmt}
 use Rattle.meaning_script.specs.Printed.{line_text}
 use Rattle.meaning_sql.specs.declared.Context.{Context}
 use Rattle.meaning_tables.specs.Tables.{Tables}
-use Rattle.sql_run.specs.declared.evaluating.Outcome.{Outcome}
-use Rattle.sql_run.specs.declared.evaluating.Outcome.TheVariants as outcomes
-use Rattle.sql_run.specs.Outcomes.{evaluated}
+use Rattle.sql_run.specs.Outcomes.{evaluated, answer_of}
 use Rattle.sql_syntax.specs.declared.parser.ParseFault.{ParseFault}
 use Rattle.sql_syntax.specs.declared.parser.ParseFault.TheVariants as parse_faults
 use Rattle.sql_syntax.specs.Parsing.{Parses}
 
-abbrev pub outcome_answer : Outcome → Answer
-outcome_answer (outcomes.Changed count) = answers.Changed count
-outcome_answer (outcomes.Rows grid) = answers.Rows grid
-outcome_answer outcomes.Done = answers.Done
-outcome_answer (outcomes.Refused fault) = answers.Refused (reasons.Sql fault)
+-- what the statements of the first transaction are evaluated with, but for its number: server fs1, a key of 32 zeros, moment 0, tokens
+-- that are good for 60 seconds; the number is the one before that of the first transaction, 1-1
+abbrev pub first_context : Context
+first_context = record { server = codes "fs1"; key = replicate 32 0; now = 0; life = 60; tx = 2 ^ 32 }
 
 -- The answer to what the grammar says of a line, and the tables after it. Each statement is a transaction, so its links count from 1.
 -- A byte that begins no lexeme makes a bad line. Want of memory is never told.
 abbrev pub IsAnswer : Tables → Context → Result Stmt ParseFault → Answer → Tables → Type 0
-IsAnswer tables context (Ok stmt) answer after = (answer ≡ outcome_answer (evaluated tables stmt context 1).outcome) × (after ≡ (evaluated tables stmt context 1).tables)
+IsAnswer tables context (Ok stmt) answer after = (answer ≡ answer_of (evaluated tables stmt context 1).outcome) × (after ≡ (evaluated tables stmt context 1).tables)
 IsAnswer tables context (Err (parse_faults.BadChar place)) answer after = (answer ≡ answers.Refused (reasons.BadLine place)) × (after ≡ tables)
 IsAnswer tables context (Err (parse_faults.Syntax place)) answer after = (answer ≡ answers.Refused (reasons.Syntax place)) × (after ≡ tables)
 IsAnswer tables context (Err parse_faults.Memory) answer after = ⊥

@@ -5,6 +5,7 @@
 mod told;
 
 use dl_base::Memory;
+use run_script::is_quiet;
 use sql_table::Tables;
 use std::io::{self, BufRead, BufWriter, Write};
 
@@ -16,7 +17,7 @@ fn main(rt: HostRuntime) -> anyhow::Result<()> {
     for line in rt.reader().split(rt.alloc(), b'\n') {
         let line = line?;
         number = number.wrapping_add(1);
-        if told::is_quiet(line.as_slice()) {
+        if is_quiet(line.as_slice()) {
             continue;
         }
         context.tx = context.tx.wrapping_add(1);

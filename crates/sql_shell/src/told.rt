@@ -1,16 +1,14 @@
 // What is told of a line.
 ghost use Rattle.std.specs.Prelude.{◌≡◌, [], IfOk, Ok, Err};
-ghost use Rattle.std.specs.List.{list_all};
-ghost use Rattle.meaning_script.specs.Lines as lines;
 ghost use Rattle.meaning_script.specs.Printed.{line_text};
 ghost use Rattle.meaning_sql.specs.declared.Context.{Context as ContextMeant};
 ghost use Rattle.meaning_tables.specs.Tables.{Tables as TablesMeant};
-ghost use Rattle.sql_shell.specs.Told.{Answers, IsAnswer, Tells, outcome_answer};
+ghost use Rattle.sql_shell.specs.Told.{Answers, IsAnswer, Tells, first_context};
 
 use dl_base::{Answer, List, Memory, Name, Refusal, Stmt, Text};
 use meaning_sql::Context;
 use run_print::text;
-use sql_run::{Outcome, evaluate};
+use sql_run::{answer_of, evaluate};
 use sql_syntax::{ParseFault, parse};
 use sql_table::Tables;
 use std::alloc::Global;
@@ -18,7 +16,9 @@ use std::alloc::Global;
 /// What statements are evaluated with: server `fs1`, a key of zeros, moment 0, tokens that are good for 60 seconds, and the number
 /// before that of the first transaction, `1-1`.
 #[tactic(auto, unfolding(dl_base::specs::Name::name_test))]
-pub fn context(alloc: Global) -> Result<Context, Memory> {
+pub fn context(alloc: Global) -> Result<Context, Memory>
+    ensures { IfOk result (λ context. context ≡ first_context) }
+{
     Ok(Context {
         server: Name::of(alloc, b"fs1")?,
         key: [0; 32],
@@ -26,31 +26,6 @@ pub fn context(alloc: Global) -> Result<Context, Memory> {
         life: 60,
         tx: 4_294_967_296,
     })
-}
-
-/// Whether a line is told nothing: it has blanks alone, or begins with two dashes.
-#[tactic(auto, unfolding(meaning_script::specs::Lines::is_quiet))]
-pub fn is_quiet(line: &[u8]) -> bool
-    ensures { result ≡ lines.is_quiet line.now }
-{
-    are_blank(line) || line.starts_with(b"--")
-}
-
-fn are_blank(bytes: &[u8]) -> bool
-    ensures { result ≡ list_all lines.is_blank bytes.now }
-{
-    bytes.iter().all(|b| *b == b' ' || *b == b'\t')
-}
-
-fn answer_of(outcome: Outcome) -> Answer
-    ensures { result ≡ outcome_answer outcome }
-{
-    match outcome {
-        Outcome::Changed(count) => Answer::Changed(count),
-        Outcome::Rows(grid) => Answer::Rows(grid),
-        Outcome::Done => Answer::Done,
-        Outcome::Refused(fault) => Answer::Refused(Refusal::Sql(fault)),
-    }
 }
 
 fn answer_of_fault(fault: ParseFault) -> Result<Answer, Memory>

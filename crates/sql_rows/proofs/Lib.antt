@@ -1,0 +1,2 @@
+pub mod OneUpdated
+pub mod Rising

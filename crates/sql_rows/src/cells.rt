@@ -1,0 +1,248 @@
+// What is put into the cells of a row.
+ghost use Rattle.std.specs.Prelude.{◌≡◌, ◌==◌, ◌≤◌, IfOk, Ok, length};
+ghost use Rattle.std.specs.List.{position_or_len};
+ghost use Rattle.dl_location.specs.Accessors as location_meant;
+ghost use Rattle.meaning_sql.specs.Faults.{Gives};
+ghost use Rattle.meaning_sql.specs.Values as values_meant;
+ghost use Rattle.meaning_statements.specs.Assigning as meant;
+
+use dl_base::{Column, ColumnRule, Copied, Dl, Kind, Limit, LinkNo, List, Row, SqlFault, Value};
+use sql_expr::cell;
+use std::alloc::Global;
+
+// The highest count of a link number inside its transaction.
+const MOST_LINKS: u32 = 1_000_000;
+
+/// What is put into a cell, and the next link number.
+#[derive(Drop)]
+pub(crate) struct Put {
+    pub value: Value,
+    pub next: u32,
+}
+
+/// The cells of a row, and the next link number.
+#[derive(Drop)]
+pub(crate) struct PutRow {
+    pub values: List<Value>,
+    pub next: u32,
+}
+
+/// The cells of a row, in order of columns, in the place of those of an old row: the first refusal is the answer, `NullKey`,
+/// `TooLong` or `Limit(Links)`, or `Memory`.
+pub(crate) fn stored_row(
+    alloc: Global,
+    tx: u64,
+    first: u32,
+    columns: &List<Column>,
+    old: &Row,
+    new: &Row,
+) -> Result<PutRow, SqlFault>
+    requires { first ≤ 1000001 }
+    ensures put { Gives (λ p. (p.values, p.next)) result (meant.stored_row tx first 0 columns.now old.now new.now) }
+    ensures few { IfOk result (λ p. p.next ≤ 1000001) }
+{
+    let mut values = List::empty(alloc);
+    let mut k = first;
+    for (i, column) in columns.as_slice().iter().enumerate() {
+        let put = stored_at(tx, k, column, i, old, new)?;
+        values.push(put.value)?;
+        k = put.next;
+    }
+    Ok(PutRow { values, next: k })
+}
+
+fn stored_at(
+    tx: u64,
+    k: u32,
+    column: &Column,
+    place: usize,
+    old: &Row,
+    new: &Row,
+) -> Result<Put, SqlFault>
+    requires { k ≤ 1000001 }
+    ensures put { Gives (λ p. (p.value, p.next)) result (meant.stored tx k column.now (values_meant.cell old.now place) (values_meant.cell new.now place)) }
+    ensures few { IfOk result (λ p. p.next ≤ 1000001) }
+{
+    let before = cell(old, place)?;
+    let value = cell(new, place)?;
+    stored(tx, k, column, &before, value)
+}
+
+#[tactic(auto, unfolding(meaning_statements::specs::Assigning::stored))]
+fn stored(tx: u64, k: u32, column: &Column, old: &Value, new: Value) -> Result<Put, SqlFault>
+    requires { k ≤ 1000001 }
+    ensures put { Gives (λ p. (p.value, p.next)) result (meant.stored tx k column.now old.now new) }
+    ensures few { IfOk result (λ p. p.next ≤ 1000001) }
+{
+    match new {
+        Value::Null => {
+            if !is_plain(column.rule) {
+                return Err(SqlFault::NullKey(column.name.copy()?));
+            }
+            Ok(Put {
+                value: Value::Null,
+                next: k,
+            })
+        }
+        Value::Int(z) => Ok(Put {
+            value: Value::Int(z),
+            next: k,
+        }),
+        Value::Text(text) => {
+            if !is_within(column.kind, text.len()) {
+                return Err(SqlFault::TooLong(column.name.copy()?));
+            }
+            Ok(Put {
+                value: Value::Text(text),
+                next: k,
+            })
+        }
+        Value::Link(link) => stored_link(tx, k, column.kind, old, link),
+    }
+}
+
+fn is_plain(rule: ColumnRule) -> bool
+    ensures { result ≡ meant.is_plain rule }
+{
+    match rule {
+        ColumnRule::Plain => true,
+        ColumnRule::NotNull => false,
+        ColumnRule::Key => false,
+    }
+}
+
+// Whether a text of so many bytes goes into a column.
+fn is_within(kind: Kind, len: usize) -> bool
+    ensures { (t : _) → length t ≡ len → result ≡ meant.is_within kind t }
+{
+    match kind {
+        Kind::Text(most) => len <= most as usize,
+        Kind::Int => true,
+        Kind::Free => true,
+        Kind::Linked(_) => true,
+    }
+}
+
+fn stored_link(tx: u64, k: u32, kind: Kind, old: &Value, link: Dl) -> Result<Put, SqlFault>
+    requires { k ≤ 1000001 }
+    ensures put { Gives (λ p. (p.value, p.next)) result (meant.stored_link tx k kind old.now link) }
+    ensures few { IfOk result (λ p. p.next ≤ 1000001) }
+{
+    match kind {
+        Kind::Linked(_) => {
+            let own = kept_link(old, &link);
+            numbered(tx, k, link, own)
+        }
+        Kind::Free => Ok(Put {
+            value: Value::Link(with_link(link, None)),
+            next: k,
+        }),
+        Kind::Int => Err(SqlFault::TypeFault),
+        Kind::Text(_) => Err(SqlFault::TypeFault),
+    }
+}
+
+// The datalink under the number that the cell keeps, else under the transaction's next one.
+fn numbered(tx: u64, k: u32, link: Dl, own: Option<LinkNo>) -> Result<Put, SqlFault>
+    requires { k ≤ 1000001 }
+    ensures put { Gives (λ p. (p.value, p.next)) result (meant.numbered tx k link own) }
+    ensures few { IfOk result (λ p. p.next ≤ 1000001) }
+{
+    if own.is_some() {
+        return Ok(Put {
+            value: Value::Link(with_link(link, own)),
+            next: k,
+        });
+    }
+    if k > MOST_LINKS {
+        return Err(SqlFault::Limit(Limit::Links));
+    }
+    Ok(Put {
+        value: Value::Link(with_link(link, Some(LinkNo { tx, k }))),
+        next: k + 1,
+    })
+}
+
+fn with_link(datalink: Dl, link: Option<LinkNo>) -> Dl
+    ensures { result ≡ record datalink { link = link } }
+{
+    let Dl {
+        location,
+        path,
+        comment,
+        link: _,
+    } = datalink;
+    Dl {
+        location,
+        path,
+        comment,
+        link,
+    }
+}
+
+// The link number that a cell keeps: its own, where the new datalink names the same file.
+fn kept_link(old: &Value, new: &Dl) -> Option<LinkNo>
+    ensures { result ≡ meant.kept_link old.now new.now }
+{
+    match old {
+        Value::Link(before) => {
+            if is_same_file(before, new) {
+                before.link
+            } else {
+                None
+            }
+        }
+        Value::Null => None,
+        Value::Int(_) => None,
+        Value::Text(_) => None,
+    }
+}
+
+// Whether two datalinks name the same host and path.
+fn is_same_file(a: &Dl, b: &Dl) -> bool
+    ensures { result ≡ meant.is_same_file a.now b.now }
+{
+    host_part(a.location.bytes()) == host_part(b.location.bytes())
+        && a.path.bytes() == b.path.bytes()
+}
+
+// What stands between the first two slashes in a row and the next slash or the end.
+fn host_part(location: &[u8]) -> &[u8]
+    ensures { result.now ≡ location_meant.host_part location.now }
+{
+    let behind = behind_slashes(location);
+    let (host, _) = behind.split_at(place_of_slash(behind));
+    host
+}
+
+// The place of the first slash, from 0, or the length where there is none.
+fn place_of_slash(bytes: &[u8]) -> usize
+    ensures value { result ≡ position_or_len (λ b. b == 47) bytes.now }
+    ensures within { result ≤ length bytes.now }
+{
+    bytes.iter().take_while(|b| **b != b'/').count()
+}
+
+// What stands behind the first two slashes in a row, and nothing where there are none.
+fn behind_slashes(bytes: &[u8]) -> &[u8]
+    ensures { result.now ≡ location_meant.behind_slashes bytes.now }
+{
+    let mut rest = bytes;
+    while let Some((first, others)) = rest.split_first() {
+        if *first == b'/' && begins_with_slash(others) {
+            let (_, behind) = others.split_at(1);
+            return behind;
+        }
+        rest = others;
+    }
+    rest
+}
+
+fn begins_with_slash(bytes: &[u8]) -> bool
+    ensures { result ≡ location_meant.begins_with_slash bytes.now }
+{
+    match bytes.first() {
+        Some(b) => *b == b'/',
+        None => false,
+    }
+}
