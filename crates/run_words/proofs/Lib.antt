@@ -1,3 +1,10 @@
+mod Agree
 mod Digits
+mod Forms
+mod Loose
 mod Rows
+mod Rules
+mod Settled
 mod Texts
+mod Turns
+mod Walking

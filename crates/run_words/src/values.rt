@@ -1,5 +1,5 @@
 // The values of options.
-ghost use Rattle.std.specs.Prelude.{◌≡◌, ◌≤◌, ◌<◌, ◌^◌, length, MatchOption};
+ghost use Rattle.std.specs.Prelude.{◌≡◌, ◌≤◌, ◌<◌, ◌^◌, length, IfOk, MatchOption};
 ghost use Rattle.std.specs.Str.Parse.{AllDigits, digits_value};
 ghost use Rattle.std.specs.Char.{is_ascii_digit};
 ghost use Rattle.std.specs.List.{list_all};
@@ -79,7 +79,8 @@ fn value_of(digits: &str) -> Option<u64>
 /// A number between two bounds.
 #[tactic(auto, using(crate::proofs::Digits::number_digits), unfolding(crate::specs::Words::is_number, crate::specs::Words::number_in))]
 pub(crate) fn number_in(least: u64, most: u64, text: &str) -> Result<u64, WordsFault>
-    ensures { Says result (number_in least most text.now) }
+    ensures exact { Says result (number_in least most text.now) }
+    ensures bounded { IfOk result (λ n. (least ≤ n) × (n ≤ most)) }
 {
     if !is_number(text.as_bytes()) {
         return Err(WordsFault::Usage);

@@ -1,9 +1,10 @@
 // A whole command line.
-ghost use Rattle.std.specs.Prelude.{◌≡◌, MatchOption, IfOk, map, codes, true, false, bytes_eq};
+ghost use Rattle.std.specs.Prelude.{◌≡◌, ◌≤◌, MatchOption, IfOk, map, codes, true, false, bytes_eq};
 ghost use Rattle.std.specs.List.{list_all};
 ghost use Rattle.std.specs.Str.{is_utf8};
 ghost use Rattle.clap.specs.Words.{rows_of, found_of};
-ghost use Rattle.run_words.specs.Words.{Says, settings, settings_in};
+ghost use Rattle.run_words.specs.Command.{settings_in};
+ghost use Rattle.run_words.specs.Words.{Says, settings};
 
 use crate::fault::WordsFault;
 use crate::split::{given, split};
@@ -22,9 +23,10 @@ const NO_KEY: &str = "0000000000000000000000000000000000000000000000000000000000
 /// `--` ends them. A number has 1 to 20 decimal digits.
 ///
 /// `Usage` comes exactly where the words say nothing.
-#[tactic(auto, unfolding(crate::specs::Words::settings))]
+#[tactic(auto, using(crate::proofs::Agree::agree))]
 pub fn read_words(alloc: Global, words: &[Text]) -> Result<Settings, WordsFault>
     ensures exact { Says result (settings words.now) }
+    ensures bounded { IfOk result (λ s. (1 ≤ s.limit) × (s.limit ≤ 1099511627776)) }
 {
     let Some(texts) = texts(alloc, words)? else {
         return Err(WordsFault::Usage);
@@ -58,9 +60,10 @@ fn texts<'a>(alloc: Global, words: &'a [Text]) -> Result<Option<Vec<&'a str>>, M
     Ok(Some(texts))
 }
 
-#[tactic(auto, unfolding(crate::specs::Words::settings_in))]
+#[tactic(auto, unfolding(crate::specs::Command::settings_in))]
 fn settings_in(alloc: Global, matches: &ArgMatches<'_>) -> Result<Settings, WordsFault>
-    ensures { Says result (settings_in (rows_of (found_of matches.now))) }
+    ensures exact { Says result (settings_in (rows_of (found_of matches.now))) }
+    ensures bounded { IfOk result (λ s. (1 ≤ s.limit) × (s.limit ≤ 1099511627776)) }
 {
     if given(matches, "command", "") != "run" {
         return Err(WordsFault::Usage);

@@ -1,6 +1,6 @@
-use Rattle.std.proofs.Common.{◌≡◌, map}
+use Rattle.std.proofs.Common.{map}
 use Rattle.std.proofs.lemmas.Result.{IfOk-weaker}
-use Rattle.clap.specs.Words.{App, app_of}
+use Rattle.clap.specs.Words.{app_of}
 use Rattle.run_words.specs.Command.{command}
 use Rattle.run_words.proofs.Rows.{simple, rows_are}
 use Rattle.run_words.proofs.split.matched.Goals as goal
