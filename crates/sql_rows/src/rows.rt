@@ -17,15 +17,20 @@ use std::alloc::Global;
 /// The rows of tuples, and the next link number.
 #[derive(Drop)]
 pub struct NewRows {
+    /// One for each tuple, in order.
     pub rows: List<Row>,
+    /// The count of the next link inside its transaction.
     pub next: u32,
 }
 
 /// The rows of a table after an UPDATE, the next link number, and how many rows were met.
 #[derive(Drop)]
 pub struct Updated {
+    /// All rows of the table, under their numbers.
     pub rows: List<(u64, Row)>,
+    /// The count of the next link inside its transaction.
     pub next: u32,
+    /// How many rows the condition was true of.
     pub met: u64,
 }
 
