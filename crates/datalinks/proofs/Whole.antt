@@ -4,14 +4,19 @@ use Rattle.dl_base.proofs.Moments.{moments_none, moments_more, moments_then, mom
 use Rattle.dl_base.specs.Outside.{Outside, Pair, Now, During, Moments, Touches, IsLawful, extended}
 use Rattle.dl_base.specs.declared.area.Area.TheVariants as areas
 use Rattle.dl_base.specs.declared.fault.Full.{Full}
+use Rattle.dl_base.specs.declared.fault.StepFault.{StepFault}
+use Rattle.dl_base.specs.declared.fault.StepFault.TheVariants as faults
 use Rattle.dl_journal.proofs.Records.{records-at_rest}
 use Rattle.dl_journal.specs.Open.{IsList, IsOpening}
 use Rattle.dl_journal.specs.Records.{records}
 use Rattle.fs_files.specs.Store.{Catalog, Holds}
 use Rattle.meaning_areas.specs.FilesArea.{files_in, files_of, files_of_list, written}
 use Rattle.meaning_files.specs.Files.{Files}
-use Rattle.meaning_script.specs.Steps.{files_after}
-use Rattle.datalinks.specs.Run.{script_steps, whole_text, IsEntry, AllStand, IsOfOpening, IsInRun, IsAfterSteps, IsWholeRun, IsFullAt, AreDone, most_area}
+use Rattle.meaning_script.specs.Steps.{steps, files_after}
+use Rattle.meaning_script.specs.declared.turn.Turn.{Turn}
+use Rattle.datalinks.specs.Codes.{step_end}
+use Rattle.datalinks.specs.Run.{whole_text, IsEntry, AllStand, IsOfOpening, IsInRun, IsAfterSteps, IsWholeRun, IsFullAt, AreDone}
+use Rattle.datalinks.specs.declared.status.Status.TheVariants as status
 
 module _ (o : Outside) (bodies : List (List ℕ)) (files : Files) (entry : IsEntry o bodies files) where
   -- what was opened is what the area reads
@@ -36,32 +41,38 @@ module _ (o : Outside) (bodies : List (List ℕ)) (files : Files) (entry : IsEnt
         opening
 
     -- at the begin
-    pub run_at_entry : (script : List ℕ) (p : Pair) → Now o p → IsInRun script bodies files o p
-    run_at_entry script p now = inl (record { told = now.told; image = inl (now.areas areas.Files); stands = all _ (now.areas areas.Files) })
+    pub run_at_entry : (turns : List Turn) (p : Pair) → Now o p → IsInRun turns bodies files o p
+    run_at_entry turns p now = inl (record { told = now.told; image = inl (now.areas areas.Files); stands = all _ (now.areas areas.Files) })
 
     -- while the area is opened
-    pub run_opening : (script : List ℕ) (m : Outside) → Touches areas.Files (IsOpening areas.Files o) o m → Moments (IsInRun script bodies files o) o m
-    run_opening script m t = moments_touch areas.Files (IsOpening areas.Files o) (IsInRun script bodies files o) o m
+    pub run_opening : (turns : List Turn) (m : Outside) → Touches areas.Files (IsOpening areas.Files o) o m → Moments (IsInRun turns bodies files o) o m
+    run_opening turns m t = moments_touch areas.Files (IsOpening areas.Files o) (IsInRun turns bodies files o) o m
         (λ p (d : During areas.Files (IsOpening areas.Files o) o p). inl (record { told = d.told; image = d.here; stands = opening_stands _ d.here })) t
 
     -- and then the lines
-    pub run_then : (script : List ℕ) (store : Catalog) (m n : Outside) → Touches areas.Files (IsOpening areas.Files o) o m → store.files ≡ files
-        → Moments (IsAfterSteps script bodies store.files m.told) m n → Moments (IsInRun script bodies files o) o n
-    run_then script store m n t same lines = moments_then (IsInRun script bodies files o) o m n (run_opening script m t)
-        (moments_more (IsAfterSteps script bodies store.files m.told) (IsInRun script bodies files o) m n
-        (λ p after. inr (subst (λ (f : Files). IsAfterSteps script bodies f o.told p) same (subst (λ (told : Option (List ℕ)). IsAfterSteps script bodies store.files told p) t.told after))) lines)
+    pub run_then : (turns : List Turn) (store : Catalog) (m n : Outside) → Touches areas.Files (IsOpening areas.Files o) o m → store.files ≡ files
+        → Moments (IsAfterSteps turns bodies store.files m.told) m n → Moments (IsInRun turns bodies files o) o n
+    run_then turns store m n t same lines = moments_then (IsInRun turns bodies files o) o m n (run_opening turns m t)
+        (moments_more (IsAfterSteps turns bodies store.files m.told) (IsInRun turns bodies files o) m n
+        (λ p after. inr (subst (λ (f : Files). IsAfterSteps turns bodies f o.told p) same (subst (λ (told : Option (List ℕ)). IsAfterSteps turns bodies store.files told p) t.told after))) lines)
 
     -- every moment since the begin
-    pub run_since : (script : List ℕ) (n : Outside) → IsLawful o → Moments (IsInRun script bodies files o) o n → (p : Pair) → n.since o.moment p → IsInRun script bodies files o p
-    run_since script n law moments p left = since_begin (IsInRun script bodies files o) o n law moments (run_at_entry script) p left
+    pub run_since : (turns : List Turn) (n : Outside) → IsLawful o → Moments (IsInRun turns bodies files o) o n → (p : Pair) → n.since o.moment p → IsInRun turns bodies files o p
+    run_since turns n law moments p left = since_begin (IsInRun turns bodies files o) o n law moments (run_at_entry turns) p left
 
   -- a run that is whole
-  pub whole_run : (script : List ℕ) (store last : Catalog) (m n : Outside) → IsLawful n → m.told ≡ o.told → store.files ≡ files → store.limit ≡ most_area → AreDone script bodies store last m n → IsWholeRun script bodies files o n
-  whole_run script store last m n law told same limit done = record {
-    told = done.told ∙ ap (λ (f : Files). extended (whole_text f script) m.told) same ∙ ap (λ (x : Option (List ℕ)). extended (whole_text files script) x) told;
+  pub whole_run : (turns : List Turn) (limit : ℕ) (store last : Catalog) (m n : Outside) → IsLawful n → m.told ≡ o.told → store.files ≡ files → store.limit ≡ limit → AreDone turns bodies store last m n → IsWholeRun turns limit bodies files o n
+  whole_run turns limit store last m n law told same most done = record {
+    told = done.told ∙ ap (λ (f : Files). extended (whole_text f turns) m.told) same ∙ ap (λ (x : Option (List ℕ)). extended (whole_text files turns) x) told;
     list = λ bytes reads. records-at_rest _ bytes (done.holds.keeps.images bytes (law.as_it_reads areas.Files bytes reads))
-        ∙ ap (λ (f : Files). Ok (bodies ++ written f (script_steps script))) same;
+        ∙ ap (λ (f : Files). Ok (bodies ++ written f (steps turns))) same;
     stands = λ bytes reads. ap files_of_list (records-at_rest _ bytes (done.holds.keeps.images bytes (law.as_it_reads areas.Files bytes reads)))
-        ∙ done.holds.stands ∙ ap (λ (f : Files). Ok f) (done.files ∙ ap (λ (f : Files). files_after f (script_steps script)) same);
-    room = λ full f. done.room full (subst (λ (l : ℕ). IsFullAt script bodies store.files l full) (sym limit) (subst (λ (x : Files). IsFullAt script bodies x most_area full) (sym same) f));
+        ∙ done.holds.stands ∙ ap (λ (f : Files). Ok f) (done.files ∙ ap (λ (f : Files). files_after f (steps turns)) same);
+    room = λ full f. done.room full (subst (λ (l : ℕ). IsFullAt turns bodies store.files l full) (sym most) (subst (λ (x : Files). IsFullAt turns bodies x limit full) (sym same) f));
   }
+
+-- a run ends full where a step's fault is that
+pub full_fault : (fault : StepFault) (full : Full) → step_end fault ≡ status.Full full → fault ≡ faults.Full full
+full_fault faults.Device full is = cc
+full_fault (faults.Full f) full is = cc
+full_fault faults.Memory full is = cc

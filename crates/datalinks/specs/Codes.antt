@@ -27,6 +27,12 @@ IsRunEnd status.Source = ⊥
 IsRunEnd (status.TooLong n) = ⊥
 IsRunEnd _ = Unit {0}
 
+-- the end of words that name no command
+abbrev pub IsUsage : Status → Type 0
+IsUsage status.Usage = Unit {0}
+IsUsage status.Memory = Unit {0}
+IsUsage _ = ⊥
+
 -- the end that a fault of an opening of the area Files makes, and that of a step
 abbrev pub opening_end : BeginFault → Status
 opening_end begins.Device = status.Device

@@ -5,7 +5,8 @@ use Rattle.dl_base.specs.declared.area.Area.TheVariants as areas
 use Rattle.dl_base.specs.declared.fault.Full.{Full}
 use Rattle.meaning_areas.specs.FilesArea.{files_in}
 use Rattle.meaning_files.specs.Files.{Files}
-use Rattle.datalinks.specs.Run.{IsFullAt, most_area}
+use Rattle.meaning_script.specs.declared.turn.Turn.{Turn}
+use Rattle.datalinks.specs.Run.{IsFullAt}
 use Rattle.datalinks.specs.declared.status.Status.{Status}
 use Rattle.datalinks.specs.declared.status.Status.TheVariants as status
 
@@ -16,9 +17,9 @@ IsDone status.Memory = Unit {0}
 IsDone _ = ⊥
 
 -- No call on the bench failed, and no step's record would pass the limit of the area Files.
-pub record HasRoom (script : List ℕ) (bodies : List (List ℕ)) (files : Files) (o n : Outside) : Type 0 where
+pub record HasRoom (turns : List Turn) (limit : ℕ) (bodies : List (List ℕ)) (files : Files) (o n : Outside) : Type 0 where
   pub calm : Rose o n → ⊥
-  pub room : (full : Full) → IsFullAt script bodies files most_area full → ⊥
+  pub room : (full : Full) → IsFullAt turns bodies files limit full → ⊥
 
 -- the ends of a run whose script was read, and of one whose area Files was opened
 abbrev pub WasRead : Status → Type 0

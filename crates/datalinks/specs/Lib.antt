@@ -4,4 +4,3 @@ pub mod Complete
 pub mod Lines
 pub mod Run
 pub mod Script
-pub mod Words

@@ -1,6 +1,7 @@
 -- What a step, and a line, does to the area Files and to what is told, at each moment.
-use Rattle.std.specs.Prelude.{◌≡◌, ◌⊎◌, ℕ, List, [], ◌++◌, Option, Some, None}
+use Rattle.std.specs.Prelude.{◌≡◌, ◌≢◌, ◌⊎◌, ℕ, List, [], ◌++◌, Option, Some, None}
 use Rattle.dl_base.specs.Outside.{Outside, Pair, TellsFront, extended}
+use Rattle.dl_base.specs.declared.area.Area.{Area}
 use Rattle.dl_base.specs.declared.area.Area.TheVariants as areas
 use Rattle.dl_base.specs.declared.fault.Full.{Full}
 use Rattle.dl_base.specs.declared.file.FileCmd.{FileCmd}
@@ -8,8 +9,12 @@ use Rattle.fs_files.specs.Store.{Catalog, Holds, Stands, IsWriting, record_of, f
 use Rattle.meaning_areas.specs.FilesArea.{writes}
 use Rattle.meaning_files.specs.Commands.{refusal}
 use Rattle.meaning_files.specs.Files.{Files}
-use Rattle.meaning_script.specs.Lines.{command_of}
-use Rattle.meaning_script.specs.Steps.{line_answer, line_files, told_answer}
+use Rattle.meaning_script.specs.Steps.{turn_step, turn_answer, files_behind, told_answer}
+use Rattle.meaning_script.specs.declared.turn.Turn.{Turn}
+
+-- each area but Files reads as it did
+abbrev pub OthersRead : Outside → Outside → Type 0
+OthersRead o n = (a : Area) → a ≢ areas.Files → n.reads a ≡ o.reads a
 
 -- the bodies that a line's step writes
 abbrev pub line_writes : Files → Option FileCmd → List (List ℕ)
@@ -17,8 +22,8 @@ line_writes files (Some cmd) = writes files cmd
 line_writes files None = []
 
 -- what is told of a line
-abbrev pub line_told : ℕ → Files → List ℕ → List ℕ
-line_told number files line = told_answer number (line_answer files line (command_of line))
+abbrev pub line_told : ℕ → Files → Turn → List ℕ
+line_told number files turn = told_answer number (turn_answer files turn)
 
 -- A crash inside a step: nothing more is told, and the area is as before it or as after it.
 pub record IsInStep (bodies more : List (List ℕ)) (files later : Files) (o : Outside) (p : Pair) : Type 0 where
@@ -31,16 +36,16 @@ pub record IsTelling (bodies : List (List ℕ)) (files : Files) (line : List ℕ
   pub area : Stands bodies files (p.areas areas.Files)
 
 -- a crash inside a line
-abbrev pub IsInLine : ℕ → List ℕ → List (List ℕ) → Files → Outside → Pair → Type 0
-IsInLine number line bodies files o p =
-    IsInStep bodies (line_writes files (command_of line)) files (line_files files (command_of line)) o p
-    ⊎ IsTelling (bodies ++ line_writes files (command_of line)) (line_files files (command_of line)) (line_told number files line) o p
+abbrev pub IsInLine : ℕ → Turn → List (List ℕ) → Files → Outside → Pair → Type 0
+IsInLine number turn bodies files o p =
+    IsInStep bodies (line_writes files (turn_step turn)) files (files_behind files (turn_step turn)) o p
+    ⊎ IsTelling (bodies ++ line_writes files (turn_step turn)) (files_behind files (turn_step turn)) (line_told number files turn) o p
 
 -- behind a line: its step is done, and its text is told
-pub record IsAfterLine (number : ℕ) (line : List ℕ) (bodies : List (List ℕ)) (old new : Catalog) (o n : Outside) : Type 0 where
-  pub files : new.files ≡ line_files old.files (command_of line)
-  pub holds : Holds new (bodies ++ line_writes old.files (command_of line)) n
-  pub told : n.told ≡ extended (line_told number old.files line) o.told
+pub record IsAfterLine (number : ℕ) (turn : Turn) (bodies : List (List ℕ)) (old new : Catalog) (o n : Outside) : Type 0 where
+  pub files : new.files ≡ files_behind old.files (turn_step turn)
+  pub holds : Holds new (bodies ++ line_writes old.files (turn_step turn)) n
+  pub told : n.told ≡ extended (line_told number old.files turn) o.told
 
 -- a step that is not refused, but whose record would pass the limit
 pub record IsFullStep (c : Catalog) (cmd : FileCmd) (full : Full) : Type 0 where
@@ -50,7 +55,7 @@ pub record IsFullStep (c : Catalog) (cmd : FileCmd) (full : Full) : Type 0 where
   pub full_is : full ≡ full_with c (record_of cmd)
 
 -- the same of a line
-pub record IsFullLine (c : Catalog) (line : List ℕ) (full : Full) : Type 0 where
+pub record IsFullLine (c : Catalog) (turn : Turn) (full : Full) : Type 0 where
   pub cmd : FileCmd
-  pub is : command_of line ≡ Some cmd
+  pub is : turn_step turn ≡ Some cmd
   pub step : IsFullStep c cmd full

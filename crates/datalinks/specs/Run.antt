@@ -13,21 +13,26 @@ use Rattle.fs_files.specs.Store.{Catalog, Holds, IsWriting, record_of}
 use Rattle.meaning_areas.specs.FilesArea.{files_in, files_of, written}
 use Rattle.meaning_files.specs.Commands.{refusal}
 use Rattle.meaning_files.specs.Files.{Files}
+use Rattle.meaning_machine.specs.Turns.{AreTurns, no_sessions}
+use Rattle.dl_base.specs.declared.step.Settings.{Settings}
 use Rattle.meaning_script.specs.Steps.{steps, files_after, text}
+use Rattle.meaning_script.specs.declared.turn.Turn.{Turn}
+use Rattle.run_words.specs.Words.{settings}
 
--- the steps of a script, and the first k of them
-abbrev pub script_steps : List ℕ → List FileCmd
-script_steps script = steps (lines script)
+-- what the lines of a script lead to, in a run that was told these settings
+abbrev pub Runs : Settings → List ℕ → List Turn → Type 0
+Runs given script turns = AreTurns given no_sessions (lines script) turns
 
-abbrev pub first_steps : ℕ → List ℕ → List FileCmd
-first_steps k script = take k (script_steps script)
+-- the first k of the steps that a script's lines lead to
+abbrev pub first_steps : ℕ → List Turn → List FileCmd
+first_steps k turns = take k (steps turns)
 
 -- the text of a script's lines after k steps, and of all lines
-abbrev pub script_text : ℕ → Files → List ℕ → List ℕ
-script_text k files script = text 1 k files (lines script)
+abbrev pub script_text : ℕ → Files → List Turn → List ℕ
+script_text k files turns = text 1 k files turns
 
-abbrev pub whole_text : Files → List ℕ → List ℕ
-whole_text files script = script_text (length (script_steps script)) files script
+abbrev pub whole_text : Files → List Turn → List ℕ
+whole_text files turns = script_text (length (steps turns)) files turns
 
 -- the second text goes on from the first
 abbrev pub IsFront : List ℕ → List ℕ → Type 0
@@ -35,15 +40,15 @@ IsFront front text = (rest : List ℕ) × (text ≡ front ++ rest)
 
 -- A crash after k steps, from a list of bodies and its files: the area Files has that list and what the k steps wrote,
 -- and stands for the files after them. What was told is a front of the text, and has all lines before that of step k.
-pub record IsAfterSteps (script : List ℕ) (bodies : List (List ℕ)) (files : Files) (before : Option (List ℕ)) (p : Pair) : Type 0 where
+pub record IsAfterSteps (turns : List Turn) (bodies : List (List ℕ)) (files : Files) (before : Option (List ℕ)) (p : Pair) : Type 0 where
   pub count : ℕ
-  pub some : count ≤ length (script_steps script)
-  pub list : records (p.areas areas.Files) ≡ Ok (bodies ++ written files (first_steps count script))
-  pub recovers : files_in (p.areas areas.Files) ≡ Ok (files_after files (first_steps count script))
+  pub some : count ≤ length (steps turns)
+  pub list : records (p.areas areas.Files) ≡ Ok (bodies ++ written files (first_steps count turns))
+  pub recovers : files_in (p.areas areas.Files) ≡ Ok (files_after files (first_steps count turns))
   pub said : List ℕ
   pub told : extended said before ≡ Some p.told
-  pub not_ahead : IsFront said (script_text count files script)
-  pub not_behind : 0 < count → IsFront (script_text (count - 1) files script) said
+  pub not_ahead : IsFront said (script_text count files turns)
+  pub not_behind : 0 < count → IsFront (script_text (count - 1) files turns) said
 
 -- at the begin of a run the area Files reads as these bodies, and they stand for these files
 pub record IsEntry (o : Outside) (bodies : List (List ℕ)) (files : Files) : Type 0 where
@@ -51,6 +56,22 @@ pub record IsEntry (o : Outside) (bodies : List (List ℕ)) (files : Files) : Ty
   pub reads : o.reads areas.Files ≡ Some bytes
   pub list : records bytes ≡ Ok bodies
   pub stands : files_of bodies ≡ Ok files
+
+-- A run: the settings that its words tell, its script, what the lines of the script lead to, and the list and the files that the
+-- area Files has when it begins.
+pub record Begun : Type 0 where
+  pub given : Settings
+  pub script : List ℕ
+  pub turns : List Turn
+  pub bodies : List (List ℕ)
+  pub files : Files
+
+-- this is the run of these words, of a source that has these bytes, and of what stands outside
+pub record Begins (words : List (List ℕ)) (rest : Option (List ℕ)) (o : Outside) (run : Begun) : Type 0 where
+  pub words_tell : settings words ≡ Some run.given
+  pub source_has : rest ≡ Some run.script
+  pub lines_lead : Runs run.given run.script run.turns
+  pub area_has : IsEntry o run.bodies run.files
 
 -- whatever a crash leaves of the area Files stands for some files
 abbrev pub AllStand : Outside → Type 0
@@ -68,8 +89,8 @@ pub record IsSeen (o : Outside) (p : Pair) : Type 0 where
   pub areas : (a : Area) → o.reads a ≡ Some (p.areas a)
 
 -- a crash at a moment of a run
-abbrev pub IsInRun : List ℕ → List (List ℕ) → Files → Outside → Pair → Type 0
-IsInRun script bodies files o p = IsOfOpening o p ⊎ IsAfterSteps script bodies files o.told p
+abbrev pub IsInRun : List Turn → List (List ℕ) → Files → Outside → Pair → Type 0
+IsInRun turns bodies files o p = IsOfOpening o p ⊎ IsAfterSteps turns bodies files o.told p
 
 -- the area is no list of records, or its records stand for nothing: nothing was written
 pub record IsNoStore (area : Area) (place : ℕ) (o n : Outside) : Type 0 where
@@ -81,30 +102,26 @@ pub record IsNoStore (area : Area) (place : ℕ) (o n : Outside) : Type 0 where
 abbrev pub length_with : List (List ℕ) → List ℕ → ℕ
 length_with bodies body = size bodies + 1 + 9 + length body
 
--- the most bytes that the area Files may have
-abbrev pub most_area : ℕ
-most_area = 1099511627776
-
 -- the next step of a script would pass the limit of the area Files
-pub record IsFullAt (script : List ℕ) (bodies : List (List ℕ)) (files : Files) (limit : ℕ) (full : Full) : Type 0 where
+pub record IsFullAt (turns : List Turn) (bodies : List (List ℕ)) (files : Files) (limit : ℕ) (full : Full) : Type 0 where
   pub count : ℕ
   pub cmd : FileCmd
-  pub next : slice_get (script_steps script) count ≡ Some cmd
-  pub accepted : refusal (files_after files (first_steps count script)) cmd ≡ None
+  pub next : slice_get (steps turns) count ≡ Some cmd
+  pub accepted : refusal (files_after files (first_steps count turns)) cmd ≡ None
   pub writing : IsWriting cmd.what
-  pub passes : limit < length_with (bodies ++ written files (first_steps count script)) (record_of cmd)
-  pub full_is : full ≡ fulls.Area areas.Files (min (length_with (bodies ++ written files (first_steps count script)) (record_of cmd)) (2 ^ 64 - 1))
+  pub passes : limit < length_with (bodies ++ written files (first_steps count turns)) (record_of cmd)
+  pub full_is : full ≡ fulls.Area areas.Files (min (length_with (bodies ++ written files (first_steps count turns)) (record_of cmd)) (2 ^ 64 - 1))
 
 -- a whole run: each line is told, the area has what all steps wrote, and no step's record would have passed the limit
-pub record IsWholeRun (script : List ℕ) (bodies : List (List ℕ)) (files : Files) (o n : Outside) : Type 0 where
-  pub told : n.told ≡ extended (whole_text files script) o.told
-  pub list : (bytes : List ℕ) → n.reads areas.Files ≡ Some bytes → records bytes ≡ Ok (bodies ++ written files (script_steps script))
-  pub stands : (bytes : List ℕ) → n.reads areas.Files ≡ Some bytes → files_in bytes ≡ Ok (files_after files (script_steps script))
-  pub room : (full : Full) → IsFullAt script bodies files most_area full → ⊥
+pub record IsWholeRun (turns : List Turn) (limit : ℕ) (bodies : List (List ℕ)) (files : Files) (o n : Outside) : Type 0 where
+  pub told : n.told ≡ extended (whole_text files turns) o.told
+  pub list : (bytes : List ℕ) → n.reads areas.Files ≡ Some bytes → records bytes ≡ Ok (bodies ++ written files (steps turns))
+  pub stands : (bytes : List ℕ) → n.reads areas.Files ≡ Some bytes → files_in bytes ≡ Ok (files_after files (steps turns))
+  pub room : (full : Full) → IsFullAt turns bodies files limit full → ⊥
 
 -- the same of the lines alone, from files that are open
-pub record AreDone (script : List ℕ) (bodies : List (List ℕ)) (first last : Catalog) (o n : Outside) : Type 0 where
-  pub told : n.told ≡ extended (whole_text first.files script) o.told
-  pub holds : Holds last (bodies ++ written first.files (script_steps script)) n
-  pub files : last.files ≡ files_after first.files (script_steps script)
-  pub room : (full : Full) → IsFullAt script bodies first.files first.limit full → ⊥
+pub record AreDone (turns : List Turn) (bodies : List (List ℕ)) (first last : Catalog) (o n : Outside) : Type 0 where
+  pub told : n.told ≡ extended (whole_text first.files turns) o.told
+  pub holds : Holds last (bodies ++ written first.files (steps turns)) n
+  pub files : last.files ≡ files_after first.files (steps turns)
+  pub room : (full : Full) → IsFullAt turns bodies first.files first.limit full → ⊥

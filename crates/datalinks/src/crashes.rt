@@ -1,7 +1,7 @@
 // The machine stopped after each of its calls, and every call failing once: what is found then.
-use crate::single::single;
 use crate::status::Status;
-use dl_base::{Area, List, Memory, Text};
+use crate::tests::ended;
+use dl_base::{Area, List, Memory};
 use dl_bench::{Call, MemoryBench, MemorySource, Pick};
 use std::alloc::Global;
 use std::process::Abort;
@@ -41,8 +41,6 @@ fn run(
     failing: Option<(Call, u64)>,
     fuse: Option<u64>,
 ) -> Result<(Status, MemoryBench), Memory> {
-    let mut words = List::empty(alloc);
-    words.push(Text::of(alloc, b"run")?)?;
     let mut source = MemorySource::new(alloc, script, None)?;
     let mut list = List::empty(alloc);
     if let Some(call) = failing {
@@ -50,7 +48,7 @@ fn run(
     }
     let mut bench = MemoryBench::new(alloc, list, fuse)?;
     bench.put(Area::Files, files)?;
-    Ok(single(alloc, words.as_slice(), &mut source, bench))
+    ended(alloc, b"run", &mut source, bench)
 }
 
 /// Whether the file `/a` is found, by a run that must end well.
@@ -132,12 +130,10 @@ fn each_call_failing_once(rt: HostRuntime) -> Result<(), Memory> {
 #[test]
 fn a_source_that_fails(rt: HostRuntime) -> Result<(), Memory> {
     let alloc = rt.alloc();
-    let mut words = List::empty(alloc);
-    words.push(Text::of(alloc, b"run")?)?;
     for n in 1..3 {
         let mut source = MemorySource::new(alloc, script(), Some(n))?;
         let bench = MemoryBench::new(alloc, List::empty(alloc), None)?;
-        let (status, after) = single(alloc, words.as_slice(), &mut source, bench);
+        let (status, after) = ended(alloc, b"run", &mut source, bench)?;
         assert_eq!(rt; status, Status::Source);
         assert_eq!(rt; after.area(Area::Files).len() + after.told().len(), 0);
     }

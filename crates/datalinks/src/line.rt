@@ -6,15 +6,21 @@ ghost use Rattle.dl_base.specs.declared.fault.Full.{Full};
 ghost use Rattle.fs_files.specs.Store.{Holds, IsReady};
 ghost use Rattle.meaning_areas.specs.FilesArea.{writes};
 ghost use Rattle.meaning_files.specs.Commands.{refusal, read_answer, answer_of, changed, file_command};
-ghost use Rattle.meaning_script.specs.Lines.{command_of, IsBuilt};
+ghost use Rattle.meaning_machine.specs.Turns.{IsTurn, Sessions as SessionsMeant};
+ghost use Rattle.meaning_script.specs.Lines.{IsBuilt};
 ghost use Rattle.meaning_script.specs.Printed.{line_text};
-ghost use Rattle.meaning_script.specs.Steps.{line_answer, line_files};
-ghost use Rattle.datalinks.specs.Lines.{line_writes, IsInStep, IsInLine, IsAfterLine, IsFullStep, IsFullLine};
+ghost use Rattle.meaning_script.specs.Steps.{turn_step, turn_answer, files_behind};
+ghost use Rattle.meaning_script.specs.declared.turn.Turn as turned;
+ghost use Rattle.run_turn.specs.Asking.{AsksBuilt};
+ghost use Rattle.datalinks.specs.Lines.{OthersRead, line_writes, IsInStep, IsInLine, IsAfterLine, IsFullStep, IsFullLine};
 
-use dl_base::{Answer, Bench, FileCmd, FileWhat, List, Memory, Path, Refusal, StepFault};
+use dl_base::{
+    Answer, Bench, FileCmd, FileWhat, List, Memory, Path, Refusal, Settings, StepFault, Text,
+};
 use fs_files::Files;
+use meaning_script::Turn;
 use run_print::text;
-use run_script::{command_of, is_quiet};
+use run_turn::Sessions;
 use std::alloc::Global;
 
 /// Does a line, and tells its answer.
@@ -22,21 +28,51 @@ pub fn do_line<B: Bench>(
     alloc: Global,
     bench: &mut B,
     store: &mut Files,
+    sessions: &mut Sessions,
+    given: &Settings,
     number: u64,
     line: &[u8],
 ) -> Result<(), StepFault>
     requires { IsReady store.old (B.outside bench.old) }
     ensures ready { OnOk result (IsReady store.new (B.outside bench.new)) }
-    ensures images { (bodies : List (List ℕ)) → Holds store.old bodies (B.outside bench.old) → Moments (IsInLine number line.now bodies store.old.files (B.outside bench.old)) (B.outside bench.old) (B.outside bench.new) }
-    ensures done { OnOk result ((bodies : List (List ℕ)) → Holds store.old bodies (B.outside bench.old) → IsAfterLine number line.now bodies store.old store.new (B.outside bench.old) (B.outside bench.new)) }
+    ensures read { OnOk result ((turn : turned.Turn) × IsTurn given.entry.now sessions.old line.now turn sessions.new) }
+    ensures images { (turn : turned.Turn) (later : SessionsMeant) → IsTurn given.entry.now sessions.old line.now turn later → (bodies : List (List ℕ)) → Holds store.old bodies (B.outside bench.old)
+        → Moments (IsInLine number turn bodies store.old.files (B.outside bench.old)) (B.outside bench.old) (B.outside bench.new) }
+    ensures done { OnOk result ((turn : turned.Turn) (later : SessionsMeant) → IsTurn given.entry.now sessions.old line.now turn later
+        → (later ≡ sessions.new) × ((bodies : List (List ℕ)) → Holds store.old bodies (B.outside bench.old) → IsAfterLine number turn bodies store.old store.new (B.outside bench.old) (B.outside bench.new))) }
     ensures limit { store.new.limit ≡ store.old.limit }
-    ensures full { (full : Full) → result ≡ Err (StepFault.Full full) → IsFullLine store.old line.now full }
-    ensures room { OnOk result ((full : Full) → IsFullLine store.old line.now full → ⊥) }
+    ensures full { (full : Full) → result ≡ Err (StepFault.Full full) → (turn : turned.Turn) (later : SessionsMeant) → IsTurn given.entry.now sessions.old line.now turn later → IsFullLine store.old turn full }
+    ensures room { OnOk result ((turn : turned.Turn) (later : SessionsMeant) → IsTurn given.entry.now sessions.old line.now turn later → (full : Full) → IsFullLine store.old turn full → ⊥) }
+    ensures others { OthersRead (B.outside bench.old) (B.outside bench.new) }
     ensures faults { (B.outside bench.old).faults ≤ (B.outside bench.new).faults }
     ensures device { result ≡ Err StepFault.Device → Rose (B.outside bench.old) (B.outside bench.new) }
 {
-    match answer_line(alloc, bench, store, line)? {
-        Some(answer) => tell(alloc, bench, number, &answer),
+    let turn = sessions.turn(alloc, given, line)?;
+    take_turn(alloc, bench, store, number, turn)
+}
+
+// Does what a line leads to, and tells its answer.
+fn take_turn<B: Bench>(
+    alloc: Global,
+    bench: &mut B,
+    store: &mut Files,
+    number: u64,
+    turn: Turn,
+) -> Result<(), StepFault>
+    requires ready { IsReady store.old (B.outside bench.old) }
+    requires built { AsksBuilt turn }
+    ensures ready { OnOk result (IsReady store.new (B.outside bench.new)) }
+    ensures images { (bodies : List (List ℕ)) → Holds store.old bodies (B.outside bench.old) → Moments (IsInLine number turn bodies store.old.files (B.outside bench.old)) (B.outside bench.old) (B.outside bench.new) }
+    ensures done { OnOk result ((bodies : List (List ℕ)) → Holds store.old bodies (B.outside bench.old) → IsAfterLine number turn bodies store.old store.new (B.outside bench.old) (B.outside bench.new)) }
+    ensures limit { store.new.limit ≡ store.old.limit }
+    ensures full { (full : Full) → result ≡ Err (StepFault.Full full) → IsFullLine store.old turn full }
+    ensures room { OnOk result ((full : Full) → IsFullLine store.old turn full → ⊥) }
+    ensures others { OthersRead (B.outside bench.old) (B.outside bench.new) }
+    ensures faults { (B.outside bench.old).faults ≤ (B.outside bench.new).faults }
+    ensures device { result ≡ Err StepFault.Device → Rose (B.outside bench.old) (B.outside bench.new) }
+{
+    match answer_turn(bench, store, turn)? {
+        Some(answer) => tell(alloc, bench, number, answer),
         None => Ok(()),
     }
 }
@@ -46,51 +82,54 @@ fn tell<B: Bench>(
     alloc: Global,
     bench: &mut B,
     number: u64,
-    answer: &Answer,
+    answer: Answer,
 ) -> Result<(), StepFault>
-    ensures says { Says (line_text [] number answer.now) (B.outside bench.old) (B.outside bench.new) }
-    ensures told { OnOk result ((B.outside bench.new).told ≡ extended (line_text [] number answer.now) (B.outside bench.old).told) }
+    ensures says { Says (line_text [] number answer) (B.outside bench.old) (B.outside bench.new) }
+    ensures told { OnOk result ((B.outside bench.new).told ≡ extended (line_text [] number answer) (B.outside bench.old).told) }
     ensures not_full { (full : Full) → result ≢ Err (StepFault.Full full) }
+    ensures others { OthersRead (B.outside bench.old) (B.outside bench.new) }
     ensures faults { (B.outside bench.old).faults ≤ (B.outside bench.new).faults }
     ensures device { result ≡ Err StepFault.Device → Rose (B.outside bench.old) (B.outside bench.new) }
 {
-    let names = List::empty(alloc);
-    let text = text(alloc, number, answer, &names)?;
+    let text = told(alloc, number, answer)?;
     bench.say(text.bytes())?;
     Ok(())
 }
 
-// Does a line's step, if it has one, and gives its answer, if it is answered.
-// Here alone it is said which lines are not built.
-fn answer_line<B: Bench>(
-    alloc: Global,
+// What is told of an answer. None of today names a session.
+fn told(alloc: Global, number: u64, answer: Answer) -> Result<Text, Memory>
+    ensures { IfOk result (λ text. text ≡ line_text [] number answer) }
+{
+    let names = List::empty(alloc);
+    text(alloc, number, &answer, &names)
+}
+
+// Does the step that a line leads to, if there is one, and gives its answer, if it is answered.
+fn answer_turn<B: Bench>(
     bench: &mut B,
     store: &mut Files,
-    line: &[u8],
+    turn: Turn,
 ) -> Result<Option<Answer>, StepFault>
-    requires { IsReady store.old (B.outside bench.old) }
-    ensures answer { IfOk result (λ answer. answer ≡ line_answer store.old.files line.now (command_of line.now)) }
-    ensures files { OnOk result (store.new.files ≡ line_files store.old.files (command_of line.now)) }
-    ensures kept { OnOk result ((bodies : List (List ℕ)) → Holds store.old bodies (B.outside bench.old) → Holds store.new (bodies ++ line_writes store.old.files (command_of line.now)) (B.outside bench.new)) }
+    requires ready { IsReady store.old (B.outside bench.old) }
+    requires built { AsksBuilt turn }
+    ensures answer { IfOk result (λ answer. answer ≡ turn_answer store.old.files turn) }
+    ensures files { OnOk result (store.new.files ≡ files_behind store.old.files (turn_step turn)) }
+    ensures kept { OnOk result ((bodies : List (List ℕ)) → Holds store.old bodies (B.outside bench.old) → Holds store.new (bodies ++ line_writes store.old.files (turn_step turn)) (B.outside bench.new)) }
     ensures ready { OnOk result (IsReady store.new (B.outside bench.new)) }
     ensures images { (bodies : List (List ℕ)) → Holds store.old bodies (B.outside bench.old)
-        → Moments (IsInStep bodies (line_writes store.old.files (command_of line.now)) store.old.files (line_files store.old.files (command_of line.now)) (B.outside bench.old)) (B.outside bench.old) (B.outside bench.new) }
+        → Moments (IsInStep bodies (line_writes store.old.files (turn_step turn)) store.old.files (files_behind store.old.files (turn_step turn)) (B.outside bench.old)) (B.outside bench.old) (B.outside bench.new) }
     ensures told { (B.outside bench.new).told ≡ (B.outside bench.old).told }
     ensures limit { store.new.limit ≡ store.old.limit }
-    ensures full { (full : Full) → result ≡ Err (StepFault.Full full) → IsFullLine store.old line.now full }
-    ensures room { OnOk result ((full : Full) → IsFullLine store.old line.now full → ⊥) }
+    ensures full { (full : Full) → result ≡ Err (StepFault.Full full) → IsFullLine store.old turn full }
+    ensures room { OnOk result ((full : Full) → IsFullLine store.old turn full → ⊥) }
+    ensures others { OthersRead (B.outside bench.old) (B.outside bench.new) }
     ensures faults { (B.outside bench.old).faults ≤ (B.outside bench.new).faults }
     ensures device { result ≡ Err StepFault.Device → Rose (B.outside bench.old) (B.outside bench.new) }
 {
-    match command_of(alloc, line)? {
-        Some(cmd) => Ok(Some(step(bench, store, cmd)?)),
-        None => {
-            if is_quiet(line) {
-                Ok(None)
-            } else {
-                Ok(Some(Answer::Refused(Refusal::NotBuilt)))
-            }
-        }
+    match turn {
+        Turn::Quiet => Ok(None),
+        Turn::Answered(answer) => Ok(Some(answer)),
+        Turn::Asks(cmd) => Ok(Some(step(bench, store, cmd)?)),
     }
 }
 
@@ -108,6 +147,7 @@ fn step<B: Bench>(bench: &mut B, store: &mut Files, cmd: FileCmd) -> Result<Answ
     ensures limit { store.new.limit ≡ store.old.limit }
     ensures full { (full : Full) → result ≡ Err (StepFault.Full full) → IsFullStep store.old cmd full }
     ensures room { OnOk result ((full : Full) → IsFullStep store.old cmd full → ⊥) }
+    ensures others { OthersRead (B.outside bench.old) (B.outside bench.new) }
     ensures faults { (B.outside bench.old).faults ≤ (B.outside bench.new).faults }
     ensures device { result ≡ Err StepFault.Device → Rose (B.outside bench.old) (B.outside bench.new) }
 {
@@ -132,6 +172,7 @@ fn accepted<B: Bench>(bench: &mut B, store: &mut Files, cmd: FileCmd) -> Result<
     ensures limit { store.new.limit ≡ store.old.limit }
     ensures full { (full : Full) → result ≡ Err (StepFault.Full full) → IsFullStep store.old cmd full }
     ensures room { OnOk result ((full : Full) → IsFullStep store.old cmd full → ⊥) }
+    ensures others { OthersRead (B.outside bench.old) (B.outside bench.new) }
     ensures faults { (B.outside bench.old).faults ≤ (B.outside bench.new).faults }
     ensures device { result ≡ Err StepFault.Device → Rose (B.outside bench.old) (B.outside bench.new) }
 {

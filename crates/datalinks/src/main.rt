@@ -13,7 +13,6 @@ mod single;
 mod status;
 #[cfg(test)]
 mod tests;
-mod words;
 
 use dl_base::{List, Memory, Text};
 use folder::FolderBench;

@@ -2,7 +2,9 @@ use crate::folder::FolderBench;
 use crate::input::InputSource;
 use crate::single::single;
 use crate::status::Status;
-use dl_base::{Area, Bench, FileCmd, FileWhat, List, Name, Path, Source, Text, is_name, is_path};
+use dl_base::{
+    Area, Bench, FileCmd, FileWhat, List, Memory, Name, Path, Source, Text, is_name, is_path,
+};
 use dl_bench::{Call, MemoryBench, MemorySource};
 use fs_files::Files;
 use std::alloc::Global;
@@ -24,19 +26,6 @@ fn first_text() -> &'static [u8] {
     b"1: ok\n2: bytes 3\n2| one\n"
 }
 
-/// Blank lines, comments, CR LF, bytes that are no UTF-8, an empty content, refusals, and no newline at the end.
-fn long_script() -> &'static [u8] {
-    b"-- a note\r\n\r\n \t\n@ann create /a one\r\n@ann read /a\r\n@ann create /a x\n@ann read /b\n@ann write /a y\n\
-      @ann create /c \xff\xfe\n@bob read /c\n@ann create /d \n@ann read /d\n@ann  create /e x\n@dlfm create /e x\n\
-      @ann create e x\n@ann read /a /b\nSELECT"
-}
-
-fn long_text() -> &'static [u8] {
-    b"4: ok\n5: bytes 3\n5| one\n6: refused exists /a\n7: refused no file /b\n8: refused not built\n\
-      9: ok\n10: bytes 2\n10| \xff\xfe\n11: ok\n12: bytes 0\n12| \n13: refused not built\n14: refused not built\n\
-      15: refused not built\n16: refused not built\n17: refused not built\n"
-}
-
 /// A record whose length passes the end, a body that is no record, and a removal of a file that is not there.
 fn damaged(which: u8) -> &'static [u8] {
     match which {
@@ -46,44 +35,41 @@ fn damaged(which: u8) -> &'static [u8] {
     }
 }
 
-/// Each command that is built, and each of its refusals.
-fn all_commands() -> &'static [u8] {
-    b"@ann create /a one\n@ann read /a\n@ann create /a x\n@bob delete /a\n@ann delete /a\n@ann read /a\n@ann write /a y\n\
-      @bob create /a\n@bob read /a\n@bob delete /b\n"
-}
-
-fn all_answers() -> &'static [u8] {
-    b"1: ok\n2: bytes 3\n2| one\n3: refused exists /a\n4: refused not owner /a ann\n5: ok\n6: refused no file /a\n\
-      7: refused not built\n8: ok\n9: bytes 0\n9| \n10: refused no file /b\n"
-}
-
 fn bench(alloc: Global) -> Result<MemoryBench, Fail> {
     Ok(MemoryBench::new(alloc, List::empty(alloc), None)?)
 }
 
-fn done(
+/// How a run ends that is given these words, one space between them, and what it leaves.
+pub fn ended(
     alloc: Global,
-    word: &[u8],
-    script: &[u8],
+    words: &[u8],
+    source: &mut MemorySource,
     bench: MemoryBench,
-) -> Result<(Status, MemoryBench), Fail> {
-    let mut words = List::empty(alloc);
-    words.push(Text::of(alloc, word)?)?;
-    let mut source = MemorySource::new(alloc, script, None)?;
-    Ok(single(alloc, words.as_slice(), &mut source, bench))
+) -> Result<(Status, MemoryBench), Memory> {
+    let mut given = List::empty(alloc);
+    for word in words.split(|b| *b == b' ') {
+        given.push(Text::of(alloc, word)?)?;
+    }
+    Ok(single(alloc, given.as_slice(), source, bench))
 }
 
-fn tells(rt: &impl Abort, alloc: Global, script: &[u8], text: &[u8]) -> Result<MemoryBench, Fail> {
-    let (status, after) = done(alloc, b"run", script, bench(alloc)?)?;
-    assert_eq!(rt; status, Status::Done);
-    assert_eq!(rt; after.told(), text);
-    Ok(after)
+/// The same of a script.
+fn done(
+    alloc: Global,
+    words: &[u8],
+    script: &[u8],
+    bench: MemoryBench,
+) -> Result<(Status, MemoryBench), Memory> {
+    let mut source = MemorySource::new(alloc, script, None)?;
+    ended(alloc, words, &mut source, bench)
 }
 
 #[test]
 fn the_first_run_and_a_second_one(rt: HostRuntime) -> Result<(), Fail> {
     let alloc = rt.alloc();
-    let after = tells(&rt, alloc, first_script(), first_text())?;
+    let (status, after) = done(alloc, b"run", first_script(), bench(alloc)?)?;
+    assert_eq!(rt; status, Status::Done);
+    assert_eq!(rt; after.told(), first_text());
     assert_eq!(rt; after.area(Area::Files), first_record());
     let mut later = bench(alloc)?;
     later.put(Area::Files, first_record())?;
@@ -93,47 +79,48 @@ fn the_first_run_and_a_second_one(rt: HostRuntime) -> Result<(), Fail> {
     Ok(())
 }
 
+/// The record of the first line ends at byte 46.
 #[test]
-fn lines_and_what_they_tell(rt: HostRuntime) -> Result<(), Fail> {
-    let _ = tells(&rt, rt.alloc(), long_script(), long_text())?;
-    let _ = tells(&rt, rt.alloc(), all_commands(), all_answers())?;
-    let _ = tells(&rt, rt.alloc(), b"", b"")?;
+fn the_limit_of_the_area(rt: HostRuntime) -> Result<(), Fail> {
+    let alloc = rt.alloc();
+    let script = b"@ann create /a one";
+    let (status, after) = done(alloc, b"run --area 45", script, bench(alloc)?)?;
+    assert_eq!(rt; status.code(), 6);
+    assert_eq!(rt; after.told().len(), 0);
+    let (status, after) = done(alloc, b"--area=46 run", script, bench(alloc)?)?;
+    assert_eq!(rt; status, Status::Done);
+    assert_eq!(rt; after.told(), b"1: ok\n".as_slice());
+    assert_eq!(rt; after.area(Area::Files), first_record());
+    Ok(())
+}
+
+fn is_usage(rt: &impl Abort, alloc: Global, words: &[u8]) -> Result<(), Fail> {
+    let (status, after) = done(alloc, words, first_script(), bench(alloc)?)?;
+    assert_eq!(rt; status.code(), 2);
+    assert_eq!(rt; after.told().len() + after.area(Area::Files).len(), 0);
     Ok(())
 }
 
 #[test]
 fn other_words(rt: HostRuntime) -> Result<(), Fail> {
     let alloc = rt.alloc();
-    let (status, after) = done(alloc, b"walk", first_script(), bench(alloc)?)?;
-    assert_eq!(rt; status, Status::Usage);
-    assert_eq!(rt; status.code(), 2);
-    assert_eq!(rt; after.told().len(), 0);
-    assert_eq!(rt; after.area(Area::Files).len(), 0);
-    let mut source = MemorySource::new(alloc, first_script(), None)?;
-    let mut words = List::empty(alloc);
-    let (status, bench) = single(alloc, words.as_slice(), &mut source, bench(alloc)?);
-    assert_eq!(rt; status, Status::Usage);
-    words.push(Text::of(alloc, b"run")?)?;
-    words.push(Text::of(alloc, b"run")?)?;
-    let (status, _) = single(alloc, words.as_slice(), &mut source, bench);
-    assert_eq!(rt; status, Status::Usage);
-    Ok(())
+    is_usage(&rt, alloc, b"walk")?;
+    is_usage(&rt, alloc, b"run run")?;
+    is_usage(&rt, alloc, b"race")?;
+    is_usage(&rt, alloc, b"load 1 100")?;
+    is_usage(&rt, alloc, b"run --area 0")
 }
 
 #[test]
 fn faults_of_source_and_device(rt: HostRuntime) -> Result<(), Fail> {
     let alloc = rt.alloc();
-    let mut words = List::empty(alloc);
-    words.push(Text::of(alloc, b"run")?)?;
     let mut broken = MemorySource::new(alloc, first_script(), Some(1))?;
-    let (status, _) = single(alloc, words.as_slice(), &mut broken, bench(alloc)?);
-    assert_eq!(rt; status, Status::Source);
+    let (status, _) = ended(alloc, b"run", &mut broken, bench(alloc)?)?;
     assert_eq!(rt; status.code(), 4);
     let mut failing = List::empty(alloc);
     failing.push((Call::Write, 2))?;
     let device = MemoryBench::new(alloc, failing, None)?;
     let (status, _) = done(alloc, b"run", first_script(), device)?;
-    assert_eq!(rt; status, Status::Device);
     assert_eq!(rt; status.code(), 3);
     Ok(())
 }

@@ -11,3 +11,4 @@ mod word;
 pub use command::read_command;
 pub use laws::places_are_those_of_the_grammar;
 pub use line::{CommandFault, FileLine};
+pub use word::{Span, next_word};

@@ -11,13 +11,14 @@ use dl_token::has_token_form;
 
 /// Where a word stands: the index of its first byte, from 0, and the index behind its last.
 #[derive(Clone, Copy)]
-pub(crate) struct Span {
+pub struct Span {
     pub begin: usize,
     pub end: usize,
 }
 
-/// The next word from an index on.
-pub(crate) fn next_word(text: &[u8], at: usize) -> Result<Span, CommandFault>
+/// The next word from an index on: bytes that are no spaces, behind spaces. `BadCommand` is the place behind the text's last byte,
+/// from 1, and comes exactly where no word is left. It takes no memory.
+pub fn next_word(text: &[u8], at: usize) -> Result<Span, CommandFault>
     requires { at ≤ length text.now }
     ensures place { IfErr result (λ e. IsPlaceIn text.now e) }
     ensures within { IfOk result (λ s. (at ≤ s.begin) × (s.begin < s.end) × (s.end ≤ length text.now)) }

@@ -1,8 +1,9 @@
-use Rattle.std.proofs.Common.{◌<◌, ◌≤◌, ◌⊎◌, inl, inr, ⊎_elim, arith}
-use Rattle.datalinks.proofs.Causes.{rose_later}
+use Rattle.std.proofs.Common.{◌≡◌, subst}
+use Rattle.meaning_script.specs.declared.turn.Turn.{Turn}
+use Rattle.datalinks.specs.Lines.{IsFullLine}
+use Rattle.datalinks.proofs.Reading.{on_ok}
 use Rattle.datalinks.proofs.line.do_line.Goals as goal
 
-pub returns-in-Some-clause-device : goal.returns-in-Some-clause-device
-returns-in-Some-clause-device g c is =
-    rose_later (g.B.Bench.outside c.args.bench.now) (g.B.Bench.outside c.answer_line.new.bench) (g.B.Bench.outside c.tell.new.bench)
-    c.answer_line.ensures.faults (c.tell.ensures.device is)
+pub returns-clause-room : goal.returns-clause-room
+returns-clause-room g c = on_ok c.take_turn.result c.take_turn.ensures.room
+    (λ free turn later is full f. let same : turn ≡ c.in_ok-turn.turn = (c.in_ok-turn.ensures.only turn later is).0 in free full (subst (λ (t : Turn). IsFullLine c.args.store.now t full) same f))

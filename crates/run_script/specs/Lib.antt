@@ -1,0 +1,4 @@
+pub mod Actors
+pub mod Expansion
+pub mod Orders
+pub mod Outlines

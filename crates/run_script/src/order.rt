@@ -1,0 +1,196 @@
+// The order that the text behind a `!` is.
+ghost use Rattle.std.specs.Prelude.{◌≡◌, ◌≤◌, ◌<◌, ◌+◌, ◌^◌, ◌∷◌, length, MatchOption, MatchResult, IfOk, Ok, Err};
+ghost use Rattle.std.specs.Char.{is_ascii_digit};
+ghost use Rattle.std.specs.List.{list_all, slice_range};
+ghost use Rattle.std.specs.Result.{IfErr};
+ghost use Rattle.std.specs.Str.Parse.{AllDigits, digits_value};
+ghost use Rattle.fs_command.specs.Words.{words_from, word_at};
+ghost use Rattle.fs_command.specs.Commands.{Gives, IfBad, IsPlaceIn, word};
+ghost use Rattle.run_script.specs.Orders.{order, nothing, number, number_in, is_number, tick, restore, crash, kept_in, crash_in, target};
+
+use crate::kind::Order;
+use dl_base::Target;
+use fs_command::{CommandFault, Span, next_word};
+
+/// What `restore` names.
+#[derive(Clone, Copy, Debug, PartialEq, Eq)]
+pub(crate) enum Kept {
+    Backup,
+    Commit,
+}
+
+/// The order that a text behind a `!` is. A bad place counts the bytes of the text from 1. It takes no memory.
+#[tactic(auto, unfolding(crate::specs::Orders::order))]
+pub(crate) fn read_order(text: &[u8]) -> Result<Order, CommandFault>
+    ensures exact { Gives result (order text.now) }
+    ensures place { IfErr result (λ e. IsPlaceIn text.now e) }
+{
+    let verb = next_word(text, 0)?;
+    let at = verb.end;
+    let bytes = &text[verb.begin..verb.end];
+    if bytes == b"tick".as_slice() {
+        return tick(text, at);
+    }
+    if bytes == b"archive".as_slice() {
+        return nothing_behind(Order::Archive, text, at);
+    }
+    if bytes == b"backup".as_slice() {
+        return nothing_behind(Order::Backup, text, at);
+    }
+    if bytes == b"restore".as_slice() {
+        return restore(text, at);
+    }
+    if bytes == b"crash".as_slice() {
+        return crash(text, at);
+    }
+    if bytes == b"resolve".as_slice() {
+        return nothing_behind(Order::Resolve, text, at);
+    }
+    Err(misplaced(verb.begin))
+}
+
+// That the word from this index, from 0, fits nothing.
+fn misplaced(begin: usize) -> CommandFault
+    requires { begin < usize.MAX }
+    ensures { result ≡ CommandFault.BadCommand (begin + 1) }
+{
+    CommandFault::BadCommand(begin as u64 + 1)
+}
+
+// The order, where no word stands from an index on.
+fn nothing_behind(order: Order, text: &[u8], at: usize) -> Result<Order, CommandFault>
+    requires { at ≤ length text.now }
+    ensures exact { Gives result (nothing order (length text.now + 1) (words_from at text.now)) }
+    ensures place { IfErr result (λ e. IsPlaceIn text.now e) }
+{
+    match next_word(text, at) {
+        Ok(word) => Err(misplaced(word.begin)),
+        Err(_) => Ok(order),
+    }
+}
+
+#[tactic(auto, unfolding(crate::specs::Orders::tick))]
+fn tick(text: &[u8], at: usize) -> Result<Order, CommandFault>
+    requires { at ≤ length text.now }
+    ensures exact { Gives result (tick (length text.now + 1) (words_from at text.now)) }
+    ensures place { IfErr result (λ e. IsPlaceIn text.now e) }
+{
+    let (seconds, end) = number_word(1_000_000_000, text, at)?;
+    nothing_behind(Order::Tick(seconds), text, end)
+}
+
+#[tactic(auto, unfolding(crate::specs::Orders::restore))]
+fn restore(text: &[u8], at: usize) -> Result<Order, CommandFault>
+    requires { at ≤ length text.now }
+    ensures exact { Gives result (restore (length text.now + 1) (words_from at text.now)) }
+    ensures place { IfErr result (λ e. IsPlaceIn text.now e) }
+{
+    let word = next_word(text, at)?;
+    let Some(kept) = kept_in(&text[word.begin..word.end]) else {
+        return Err(misplaced(word.begin));
+    };
+    let (n, end) = number_word(9_999_999_999, text, word.end)?;
+    nothing_behind(Order::Restore(target(kept, n)), text, end)
+}
+
+fn kept_in(word: &[u8]) -> Option<Kept>
+    ensures { result ≡ kept_in word.now }
+{
+    if word == b"backup".as_slice() {
+        return Some(Kept::Backup);
+    }
+    if word == b"commit".as_slice() {
+        return Some(Kept::Commit);
+    }
+    None
+}
+
+fn target(kept: Kept, n: u64) -> Target
+    ensures { result ≡ target kept n }
+{
+    match kept {
+        Kept::Backup => Target::Backup(n),
+        Kept::Commit => Target::Commit(n),
+    }
+}
+
+#[tactic(auto, unfolding(crate::specs::Orders::crash))]
+fn crash(text: &[u8], at: usize) -> Result<Order, CommandFault>
+    requires { at ≤ length text.now }
+    ensures exact { Gives result (crash (length text.now + 1) (words_from at text.now)) }
+    ensures place { IfErr result (λ e. IsPlaceIn text.now e) }
+{
+    let word = next_word(text, at)?;
+    let Some(order) = crash_in(&text[word.begin..word.end]) else {
+        return Err(misplaced(word.begin));
+    };
+    nothing_behind(order, text, word.end)
+}
+
+fn crash_in(word: &[u8]) -> Option<Order>
+    ensures { result ≡ crash_in word.now }
+{
+    if word == b"manager".as_slice() {
+        return Some(Order::CrashManager);
+    }
+    if word == b"database".as_slice() {
+        return Some(Order::CrashDatabase);
+    }
+    if word == b"both".as_slice() {
+        return Some(Order::CrashBoth);
+    }
+    None
+}
+
+// The next word, which is a number up to a bound, and the index behind it.
+fn number_word(most: u64, text: &[u8], at: usize) -> Result<(u64, usize), CommandFault>
+    requires { at ≤ length text.now }
+    ensures place { IfErr result (λ e. IsPlaceIn text.now e) }
+    ensures within { IfOk result (λ n. n.1 ≤ length text.now) }
+    ensures value { MatchResult result
+        (λ n. number most (length text.now + 1) (words_from at text.now) ≡ Ok (n.0, words_from n.1 text.now))
+        (λ e. IfBad e (λ k. number most (length text.now + 1) (words_from at text.now) ≡ Err k)) }
+{
+    let word = next_word(text, at)?;
+    match number_in(most, &text[word.begin..word.end]) {
+        Some(n) => Ok((n, word.end)),
+        None => Err(misplaced(word.begin)),
+    }
+}
+
+#[tactic(auto, using(crate::proofs::Digits::number_digits), unfolding(crate::specs::Orders::is_number, crate::specs::Orders::number_in))]
+fn number_in(most: u64, bytes: &[u8]) -> Option<u64>
+    ensures { result ≡ number_in most bytes.now }
+{
+    if !is_number(bytes) {
+        return None;
+    }
+    match value_of(bytes) {
+        Some(n) if n <= most => Some(n),
+        _ => None,
+    }
+}
+
+#[tactic(auto, unfolding(crate::specs::Orders::is_number))]
+fn is_number(bytes: &[u8]) -> bool
+    ensures { result ≡ is_number bytes.now }
+{
+    !bytes.is_empty() && bytes.len() <= 10 && are_digits(bytes)
+}
+
+fn are_digits(bytes: &[u8]) -> bool
+    ensures { result ≡ list_all is_ascii_digit bytes.now }
+{
+    bytes.iter().all(|b| b.is_ascii_digit())
+}
+
+// The number that decimal digits write, where it is below 2 to the 64th.
+#[tactic(auto, using(crate::proofs::Digits::digits_are_text))]
+fn value_of(digits: &[u8]) -> Option<u64>
+    requires some { 0 < length digits.now }
+    requires digits { AllDigits 10 digits.now }
+    ensures { MatchOption result (2 ^ 64 ≤ digits_value 10 digits.now) (λ n. n ≡ digits_value 10 digits.now) }
+{
+    let text = str::from_utf8(digits).ok()?;
+    text.parse::<u64>().ok()
+}
