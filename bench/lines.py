@@ -39,9 +39,8 @@ def peak_so_far(pid):
     return 0
 
 
-def measured(lines):
-    """Seconds, peak bytes and bytes of script and files of one run."""
-    given, made = script(lines)
+def measured(given, answers):
+    """Seconds and peak bytes of one run of a script that tells so many lines."""
     place = "/dev/shm" if os.path.isdir("/dev/shm") else None
     folder = tempfile.mkdtemp(prefix="datalinks-bench-", dir=place)
     try:
@@ -56,25 +55,32 @@ def measured(lines):
                 time.sleep(0.0005)
             seconds = time.monotonic() - start
         with open(os.path.join(folder, "told"), "rb") as told:
-            answers = told.read().count(b"\n")
-        if child.returncode != 0 or answers != lines // 2 * 3:
-            sys.exit("the program ended with status %d and told %d lines" % (child.returncode, answers))
-        return seconds, peak, len(given) + made
+            count = told.read().count(b"\n")
+        if child.returncode != 0 or count != answers:
+            sys.exit("the program ended with status %d and told %d lines" % (child.returncode, count))
+        return seconds, peak
     finally:
         shutil.rmtree(folder)
 
 
-def best(lines):
-    runs = [measured(lines) for _ in range(3)]
-    return min(r[0] for r in runs), max(r[1] for r in runs), runs[0][2]
+def best(given, answers):
+    """The least seconds and the most peak bytes of three runs."""
+    runs = [measured(given, answers) for _ in range(3)]
+    return min(r[0] for r in runs), max(r[1] for r in runs)
+
+
+def build():
+    """Builds the program where it is not built; with no words it does nothing."""
+    subprocess.run([str(COMMAND)], stdin=subprocess.DEVNULL, stderr=subprocess.DEVNULL, check=False)
 
 
 def main():
-    # Builds the program where it is not built; with no words it does nothing.
-    subprocess.run([str(COMMAND)], stdin=subprocess.DEVNULL, stderr=subprocess.DEVNULL, check=False)
+    build()
     figures = {}
     for lines in (10_000, 20_000):
-        seconds, peak, size = figures[lines] = best(lines)
+        given, made = script(lines)
+        seconds, peak = figures[lines] = best(given, lines // 2 * 3)
+        size = len(given) + made
         print("%d lines: %.3f s, peak %d bytes, script and files %d bytes, peak over these %.2f" % (lines, seconds, peak, size, peak / size))
     print("twice the lines: %.2f times the time, %.2f times the peak" % (figures[20_000][0] / figures[10_000][0], figures[20_000][1] / figures[10_000][1]))
 

@@ -1,19 +1,20 @@
 #!/usr/bin/env python3
-"""Time of statements of SQL over tables in memory, and the ratio of twice the size to once.
+"""Processor time of statements of SQL over tables in memory, and the ratio of twice the size to once.
 
 What is timed is the built program of `crates/sql_shell`, which reads statements, a line each, and tells their answers: INSERTs of
-one row each into a table with a key, UPDATEs by key, a SELECT with WHERE, a join by an equality, ORDER BY and GROUP BY. Of each the
-time is that of a run with the statements that are measured, less that of a run with those alone that come before them. It is the
-best of three runs, or of one where it takes more than five seconds, all in this one invocation. An answer that is not the right one ends the script.
+one row each into a table with a key, UPDATEs by key over a table of a tenth as many rows, SELECTs with WHERE, a join by an equality
+of a tenth as many rows with 1,000, ORDER BY and GROUP BY. Of each the time is that of a run with the statements that are measured,
+less that of a run with those alone that come before them. It is the best of three runs, or of one where it takes more than five
+seconds, all in this one invocation. An answer that is not the right one ends the script.
 
-A number as argument is the size, in place of 10,000. An INSERT and an UPDATE go over their whole table today, so that twice as many,
-over twice the rows, take four times the time.
+A number as argument is the size, in place of 10,000. An INSERT and an UPDATE go over their whole table once, so that twice as many,
+over twice the rows, take four times the time; what takes more goes over it more than once.
 """
 import pathlib
+import resource
 import subprocess
 import sys
 import tempfile
-import time
 
 ROOT = pathlib.Path(__file__).resolve().parent.parent
 FOLDER = ROOT / "crates" / "sql_shell"
@@ -44,8 +45,10 @@ def inserts(size):
 
 
 def updates(size):
-    before, told = table("t", size)
-    return before, told, ["UPDATE t SET v = v + 1 WHERE id = %d" % (i * 7919 % size) for i in range(size)], ["ok 1"] * size
+    """UPDATEs over a table of a tenth of the size."""
+    rows = size // 10
+    before, told = table("t", rows)
+    return before, told, ["UPDATE t SET v = v + 1 WHERE id = %d" % (i * 7919 % rows) for i in range(size)], ["ok 1"] * size
 
 
 def filters(size):
@@ -73,12 +76,18 @@ def groups(size):
 
 KINDS = {
     "INSERTs of a row": inserts,
-    "UPDATEs by key": updates,
+    "UPDATEs by key over a tenth as many rows": updates,
     "20 SELECTs with WHERE": filters,
-    "a join by an equality": joins,
+    "a join of a tenth as many rows with 1,000": joins,
     "ORDER BY": orders,
     "GROUP BY": groups,
 }
+
+
+def spent():
+    """The processor time of all programs that were run and have ended."""
+    usage = resource.getrusage(resource.RUSAGE_CHILDREN)
+    return usage.ru_utime + usage.ru_stime
 
 
 def seconds(statements, answers):
@@ -89,9 +98,9 @@ def seconds(statements, answers):
         with tempfile.TemporaryFile() as source, tempfile.TemporaryFile() as told:
             source.write(given)
             source.seek(0)
-            start = time.monotonic()
+            start = spent()
             run = subprocess.run([str(PROGRAM)], stdin=source, stdout=told, check=False)
-            times.append(time.monotonic() - start)
+            times.append(spent() - start)
             told.seek(0)
             lines = told.read().decode().splitlines()
         heads = [line for line in lines if line.partition(":")[0].isdigit()]
