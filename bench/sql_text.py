@@ -3,29 +3,34 @@
 
 What is timed is `sql_syntax::parse`, and `sql_syntax::print` of what it gave, for texts of 1,000 and of 60,000 bytes of each
 kind: one long literal, long sums, nested signs and nested parentheses up to their bounds, many tuples, many joined sources. The
-ratio is that of 60,000 to 30,000 bytes. Texts of 65,536 bytes of nothing but signs or parentheses are read too, which are refused
-at a bound, and so are texts of that length of each kind; none may exhaust the stack.
+ratios are those of 2,000 to 1,000 and of 60,000 to 30,000 bytes. Texts of 65,536 bytes of nothing but signs or parentheses are
+read too, which are refused at a bound, and so are texts of that length of each kind; none may exhaust the stack.
 
 A small program that only calls the two stands below; `measured.py` has it proved, built and run. The program goes many times over
-all texts, and the best time of each counts, all in this one invocation. The status is 1 where twice the length takes more
-than 2.2 times the time to read, or where a text is not answered as it has to be. On a busy machine the ratios come out too high,
-since a text of 60,000 bytes has a tree of some megabytes.
+all texts, and the best time of each counts, all in this one invocation. A print is timed with the one parse before it, and so are
+three times as many prints: half of what these take more is the time of the prints alone. The status is 1 where twice the length
+takes more than 2.2 times the time to read or to print, or where a text is not answered as it has to be. A print that takes less
+than a fiftieth of the time of reading the same text, as that of parentheses, which are not printed, is too short to be told apart
+from the parse. On a busy machine the ratios come out too high, since a text of 60,000 bytes has a tree of some megabytes.
 """
 import sys
 
 from measured import filled, told
 
 USED = ("anyhow", "dl_base", "sql_lex", "sql_syntax")
-LENGTHS = (1_000, 30_000, 60_000, 65_536)
+LENGTHS = (1_000, 2_000, 30_000, 60_000, 65_536)
+TWICE = ((1_000, 2_000), (30_000, 60_000))
 ROUNDS = 40
 BYTES = 60_000
 MOST = 2.2
+SHORT = 50
 INSERT = "INSERT INTO t VALUES ("
 DELETE = "DELETE FROM t WHERE "
 SELECT = "SELECT * FROM t"
 
 # It reads texts, a line each. In each round it prints of each text its number, its lexemes, the place of a fault of syntax or 0,
-# whether what is printed is read and printed so again, and nanoseconds of one call of parse and of one call of print.
+# whether what is printed is read and printed so again, how many calls are timed at once, and nanoseconds of so many calls of parse,
+# of so many calls of print behind one of parse, and of three times as many calls of print behind one of parse.
 PROGRAM = r"""//! Times of reading and of printing SQL text.
 #![tactic(auto)]
 
@@ -104,11 +109,14 @@ fn tell(rt: &HostRuntime, number: usize, text: &[u8]) -> anyhow::Result<()> {
     let again = is_again(alloc, text);
     let start = Instant::now(rt)?;
     let given = read(alloc, text, calls);
-    let reading = start.elapsed(rt)?.as_nanos() / calls as u128;
+    let reading = start.elapsed(rt)?.as_nanos();
     let start = Instant::now(rt)?;
-    let bytes = printed(alloc, text, calls);
-    let printing = start.elapsed(rt)?.as_nanos() / calls as u128;
-    println!(rt; "{number} {count} {fault} {again} {reading} {printing} {given} {bytes}")?;
+    let once = printed(alloc, text, calls);
+    let printing = start.elapsed(rt)?.as_nanos();
+    let start = Instant::now(rt)?;
+    let thrice = printed(alloc, text, calls.wrapping_mul(3));
+    let more = start.elapsed(rt)?.as_nanos();
+    println!(rt; "{number} {count} {fault} {again} {calls} {reading} {printing} {more} {given} {once} {thrice}")?;
     Ok(())
 }
 
@@ -178,17 +186,23 @@ REFUSED = {
 
 
 def best(lines, count):
-    """Of each text its lexemes, its place, whether it is printed so again, and the best times of reading and printing."""
+    """Of each text its lexemes, its place, whether it is printed so again, and nanoseconds of one call of parse and of print."""
     found = {}
-    for number, lexemes, place, again, reading, printing, _, _ in lines:
-        kept = found.get(int(number))
-        times = int(reading), int(printing)
+    for line in lines:
+        number, lexemes, place = map(int, line[:3])
+        kept = found.get(number)
+        times = [int(time) for time in line[5:8]]
         if kept:
-            times = min(times[0], kept[3]), min(times[1], kept[4])
-        found[int(number)] = int(lexemes), int(place), again == "true", *times
+            times = [min(pair) for pair in zip(times, kept[4])]
+        found[number] = lexemes, place, line[3] == "true", int(line[4]), times
     if len(lines) != count * ROUNDS or len(found) != count:
         sys.exit("the program told %d lines" % len(lines))
-    return [found[number] for number in range(count)]
+    return [each(*found[number]) for number in range(count)]
+
+
+def each(lexemes, place, again, calls, times):
+    reading, printing, more = times
+    return lexemes, place, again, reading / calls, (more - printing) / (2 * calls)
 
 
 def main():
@@ -207,10 +221,13 @@ def main():
             lexemes, place, again, reading, printing = by_key[kind, length]
             status |= place != 0 or not again or abs(sizes[kind, length] - length) > 12
             print("%s, %d bytes: %d lexemes, read in %d ns (%.0f lexemes a second), printed in %d ns" % (
-                kind, sizes[kind, length], lexemes, reading, lexemes * 1e9 / max(reading, 1), printing))
-        reading, printing = (by_key[kind, 60_000][place] / max(by_key[kind, 30_000][place], 1) for place in (3, 4))
-        status |= reading > MOST
-        print("%s, twice the length: %.2f times the time to read, which is to be at most %.1f, and %.2f to print" % (kind, reading, MOST, printing))
+                kind, sizes[kind, length], lexemes, reading, lexemes * 1e9 / reading, printing))
+        for less, twice in TWICE:
+            reading, printing = (by_key[kind, twice][place] / by_key[kind, less][place] for place in (3, 4))
+            is_told = by_key[kind, less][4] * SHORT >= by_key[kind, less][3]
+            status |= reading > MOST or is_told and not 0 < printing <= MOST
+            print("%s, %d bytes for %d: %.2f times the time to read, which is to be at most %.1f, and %s to print" % (
+                kind, twice, less, reading, MOST, "%.2f, as well," % printing if is_told else "too short a time"))
     sys.exit(status)
 
 

@@ -1,5 +1,5 @@
 -- Causes of faults over several calls.
-use Rattle.std.proofs.Common.{◌≡◌, ℕ, ◌≤◌, ◌<◌, inl, inr, ⊎_elim, arith}
+use Rattle.std.proofs.Common.{◌≤◌, ◌<◌, inl, inr, ⊎_elim, arith}
 use Rattle.dl_base.specs.Outside.{Outside, Rose}
 
 -- a count that rose in a later part rose in the whole

@@ -1,13 +1,13 @@
 -- What the area Files reads when a run has ended.
-use Rattle.std.proofs.Common.{◌≡◌, ⊎_elim, ℕ, List, [], ◌++◌, refl, sym, ap, subst, ◌∙◌, Option, Some, Ok, arith}
+use Rattle.std.proofs.Common.{◌≡◌, ⊎_elim, ℕ, List, [], refl, sym, ap, subst, ◌∙◌, Option, Some, Ok, arith}
 use Rattle.std.proofs.lemmas.List.{append-nil}
-use Rattle.dl_base.specs.Outside.{Outside, Pair, Now, Moments, IsLawful, extended}
+use Rattle.dl_base.specs.Outside.{Outside, Pair, Now, Moments, IsLawful}
 use Rattle.dl_base.specs.declared.area.Area.TheVariants as areas
 use Rattle.dl_journal.proofs.Records.{records-at_rest}
 use Rattle.dl_journal.specs.Open.{ReadsSameList}
 use Rattle.dl_journal.specs.Records.{records}
 use Rattle.fs_files.specs.Store.{Catalog, Holds}
-use Rattle.meaning_areas.specs.FilesArea.{files_in, files_of_list}
+use Rattle.meaning_areas.specs.FilesArea.{files_of_list}
 use Rattle.meaning_files.specs.Files.{Files}
 use Rattle.meaning_script.specs.declared.turn.Turn.{Turn}
 use Rattle.datalinks.proofs.Running.{extended-none}

@@ -2,6 +2,7 @@ pub mod Sources
 pub mod Causes
 pub mod Complete
 pub mod Left
+pub mod Others
 pub mod Reading
 pub mod Running
 pub mod Turning

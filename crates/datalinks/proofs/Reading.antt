@@ -1,5 +1,5 @@
 -- The lines that are left, as what they lead to.
-use Rattle.std.proofs.Common.{◌≡◌, ℕ, ◌+◌, List, [], ◌∷◌, refl, sym, ap, subst, ◌∙◌, Result, Ok, Err}
+use Rattle.std.proofs.Common.{◌≡◌, ℕ, ◌+◌, List, [], ◌∷◌, refl, sym, subst, Result, Ok, Err}
 use Rattle.std.specs.Result.{OnOk}
 use Rattle.dl_base.specs.Outside.{Outside, Moments}
 use Rattle.dl_base.specs.declared.fault.Full.{Full}
@@ -9,7 +9,7 @@ use Rattle.dl_base.specs.declared.step.Settings.{Settings}
 use Rattle.meaning_script.specs.declared.turn.Turn.{Turn}
 use Rattle.datalinks.specs.Lines.{IsInLine, IsAfterLine, IsFullLine}
 use Rattle.datalinks.specs.Run.{IsAfterSteps, IsFullAt, AreDone}
-use Rattle.datalinks.proofs.Running.{Reached, so_far, reached_none}
+use Rattle.datalinks.proofs.Running.{Reached, reached_none}
 use Rattle.datalinks.proofs.Turning.{reached_next, moments_next, full_next, reached_all}
 
 pub on_ok : {T E P Q : Type 0} (r : Result T E) → OnOk r P → (P → Q) → OnOk r Q

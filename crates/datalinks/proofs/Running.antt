@@ -1,11 +1,10 @@
 -- A run, line by line.
-use Rattle.std.proofs.Common.{◌≡◌, ◌⊎◌, inl, inr, ⊎_elim, ℕ, suc, ◌+◌, ◌-◌, ◌<◌, ◌≤◌, List, [], ◌∷◌, ◌++◌, length, take, drop, refl, sym, ap, subst, ◌∙◌, arith, append_assoc, length-append, Option, Some, None, Ok, add-one, slice_get, get_or, min, ◌^◌}
-use Rattle.std.proofs.lemmas.List.{append-nil, take-append-drop, take_at, length-take-le, take_all}
+use Rattle.std.proofs.Common.{◌≡◌, ◌⊎◌, inl, inr, ⊎_elim, ℕ, suc, ◌+◌, ◌-◌, ◌<◌, ◌≤◌, List, [], ◌∷◌, ◌++◌, length, take, drop, refl, sym, ap, subst, ◌∙◌, arith, append_assoc, length-append, Option, Some, None, Ok, slice_get, get_or, min, ◌^◌}
+use Rattle.std.proofs.lemmas.List.{append-nil, take-append-drop, take_at}
 use Rattle.std.proofs.lemmas.Bool.{cases_lt}
 use Rattle.std.proofs.lemmas.Option.{slice_get-get_or}
 use Rattle.std.proofs.Math.Seq.{get_or-append_seam}
-use Rattle.dl_base.proofs.Moments.{moments_more, moments_then}
-use Rattle.dl_base.specs.Outside.{Outside, Pair, Moments, TellsFront, extended}
+use Rattle.dl_base.specs.Outside.{Outside, Pair, TellsFront, extended}
 use Rattle.dl_base.specs.declared.area.Area.TheVariants as areas
 use Rattle.dl_base.specs.declared.fault.Full.{Full}
 use Rattle.dl_base.specs.declared.fault.Full.TheVariants as fulls
@@ -18,7 +17,7 @@ use Rattle.meaning_files.specs.Commands.{refusal, file_command}
 use Rattle.meaning_files.specs.Files.{Files}
 use Rattle.meaning_script.specs.Steps.{steps, files_after, text}
 use Rattle.meaning_script.specs.declared.turn.Turn.{Turn}
-use Rattle.datalinks.specs.Lines.{line_writes, line_told, IsInStep, IsTelling, IsInLine, IsAfterLine, IsFullStep}
+use Rattle.datalinks.specs.Lines.{IsInStep, IsTelling, IsFullStep}
 use Rattle.datalinks.specs.Run.{first_steps, script_text, IsFront, IsAfterSteps, IsFullAt, length_with}
 
 -- ---- lists of steps

@@ -1,24 +1,23 @@
 -- A turn of the loop over lines, and its end.
-use Rattle.std.proofs.Common.{◌≡◌, ◌⊎◌, inl, inr, ℕ, suc, zero, ◌+◌, ◌-◌, ◌<◌, ◌≤◌, min, ◌^◌, List, [], ◌∷◌, ◌++◌, length, take, refl, sym, ap, subst, ◌∙◌, arith, length-append, Option, Some, None, Ok, slice_get, get_or, add-one, true, false, ◌==◌}
+use Rattle.std.proofs.Common.{◌≡◌, ◌⊎◌, ℕ, suc, ◌+◌, ◌-◌, ◌<◌, min, ◌^◌, List, [], ◌∷◌, ◌++◌, length, refl, sym, ap, subst, ◌∙◌, arith, Option, Some, None, slice_get, add-one, true, false, ◌==◌}
 use Rattle.std.proofs.lemmas.Bool.Decides.{nat_tests}
-use Rattle.std.proofs.lemmas.List.{append-nil, take_all}
+use Rattle.std.proofs.lemmas.List.{append-nil}
 use Rattle.std.proofs.lemmas.Option.{slice_get_within}
 use Rattle.std.specs.List.{cons_option}
-use Rattle.dl_base.proofs.Moments.{moments_more, moments_then}
+use Rattle.dl_base.proofs.Moments.{moments_more}
 use Rattle.dl_base.specs.Outside.{Outside, Pair, Moments, extended}
 use Rattle.dl_base.specs.declared.area.Area.TheVariants as areas
 use Rattle.dl_base.specs.declared.fault.Full.{Full}
 use Rattle.dl_base.specs.declared.fault.Full.TheVariants as fulls
 use Rattle.dl_base.specs.declared.file.FileCmd.{FileCmd}
-use Rattle.dl_journal.specs.Records.{size}
 use Rattle.fs_files.specs.Store.{Catalog, Holds, record_of}
 use Rattle.meaning_areas.specs.FilesArea.{written}
 use Rattle.meaning_files.specs.Commands.{refusal}
 use Rattle.meaning_files.specs.Files.{Files}
 use Rattle.meaning_script.specs.Steps.{steps, files_after, files_behind, turn_step, turn_answer, told_answer, text, text_after}
 use Rattle.meaning_script.specs.declared.turn.Turn.{Turn}
-use Rattle.datalinks.specs.Lines.{line_writes, line_told, IsInLine, IsInStep, IsTelling, IsAfterLine, IsFullLine, IsFullStep}
-use Rattle.datalinks.specs.Run.{first_steps, script_text, whole_text, IsAfterSteps, IsFullAt, AreDone, length_with}
+use Rattle.datalinks.specs.Lines.{line_writes, IsInLine, IsInStep, IsTelling, IsAfterLine, IsFullLine}
+use Rattle.datalinks.specs.Run.{first_steps, script_text, IsAfterSteps, IsFullAt, AreDone, length_with}
 use Rattle.datalinks.proofs.Running.{Reached, slice_get_seam, so_far, reached_without, reached_with, during_without, during_with}
 
 module _ (turns : List Turn) (bodies : List (List ℕ)) (first : Catalog) (o : Outside) (now : Catalog) (turn : Turn) (next : List Turn) (number : ℕ) (m : Outside)

@@ -1,6 +1,6 @@
 -- From an opening and the lines to a whole run.
-use Rattle.std.proofs.Common.{◌≡◌, ◌⊎◌, inl, inr, ⊎_elim, ℕ, List, [], ◌++◌, refl, sym, ap, subst, ◌∙◌, Option, Some, None, Result, Ok, Err, IsOk}
-use Rattle.dl_base.proofs.Moments.{moments_none, moments_more, moments_then, moments_touch, since_begin}
+use Rattle.std.proofs.Common.{◌≡◌, ◌⊎◌, inl, inr, ⊎_elim, ℕ, List, ◌++◌, refl, sym, ap, subst, ◌∙◌, Option, Some, Result, Ok, IsOk}
+use Rattle.dl_base.proofs.Moments.{moments_more, moments_then, moments_touch, since_begin}
 use Rattle.dl_base.specs.Outside.{Outside, Pair, Now, During, Moments, Touches, IsLawful, extended}
 use Rattle.dl_base.specs.declared.area.Area.TheVariants as areas
 use Rattle.dl_base.specs.declared.fault.Full.{Full}
@@ -15,7 +15,7 @@ use Rattle.meaning_files.specs.Files.{Files}
 use Rattle.meaning_script.specs.Steps.{steps, files_after}
 use Rattle.meaning_script.specs.declared.turn.Turn.{Turn}
 use Rattle.datalinks.specs.Codes.{step_end}
-use Rattle.datalinks.specs.Run.{whole_text, IsEntry, AllStand, IsOfOpening, IsInRun, IsAfterSteps, IsWholeRun, IsFullAt, AreDone}
+use Rattle.datalinks.specs.Run.{whole_text, IsEntry, AllStand, IsInRun, IsAfterSteps, IsWholeRun, IsFullAt, AreDone}
 use Rattle.datalinks.specs.declared.status.Status.TheVariants as status
 
 module _ (o : Outside) (bodies : List (List ℕ)) (files : Files) (entry : IsEntry o bodies files) where

@@ -1,5 +1,5 @@
 -- What a bench is seen as that tells no content.
-use Rattle.std.specs.Prelude.{◌≡◌, ℕ, None}
+use Rattle.std.specs.Prelude.{ℕ, None}
 use Rattle.dl_base.specs.Outside.{Outside, IsLawful}
 
 -- nothing is claimed of what a crash leaves

@@ -1,6 +1,6 @@
 -- What a step, and a line, does to the area Files and to what is told, at each moment.
 use Rattle.std.specs.Prelude.{◌≡◌, ◌≢◌, ◌⊎◌, ℕ, List, [], ◌++◌, Option, Some, None}
-use Rattle.dl_base.specs.Outside.{Outside, Pair, TellsFront, extended}
+use Rattle.dl_base.specs.Outside.{Outside, Pair, Moments, TellsFront, extended}
 use Rattle.dl_base.specs.declared.area.Area.{Area}
 use Rattle.dl_base.specs.declared.area.Area.TheVariants as areas
 use Rattle.dl_base.specs.declared.fault.Full.{Full}
@@ -12,9 +12,15 @@ use Rattle.meaning_files.specs.Files.{Files}
 use Rattle.meaning_script.specs.Steps.{turn_step, turn_answer, files_behind, told_answer}
 use Rattle.meaning_script.specs.declared.turn.Turn.{Turn}
 
--- each area but Files reads as it did
-abbrev pub OthersRead : Outside → Outside → Type 0
-OthersRead o n = (a : Area) → a ≢ areas.Files → n.reads a ≡ o.reads a
+-- what a crash leaves in each area but Files is what it might have left there before
+abbrev pub OthersWere : Outside → Pair → Type 0
+OthersWere o p = (a : Area) → a ≢ areas.Files → o.image a (p.areas a)
+
+-- No area but Files is touched: each reads as it did, and a crash, at any moment and afterwards, leaves there what it might have left before.
+pub record OthersStand (o n : Outside) : Type 0 where
+  pub reads : (a : Area) → a ≢ areas.Files → n.reads a ≡ o.reads a
+  pub images : (a : Area) → a ≢ areas.Files → (c : List ℕ) → n.image a c → o.image a c
+  pub moments : Moments (OthersWere o) o n
 
 -- the bodies that a line's step writes
 abbrev pub line_writes : Files → Option FileCmd → List (List ℕ)

@@ -1,18 +1,17 @@
 // One line: its step, and what is told of it.
-ghost use Rattle.std.specs.Prelude.{◌≡◌, ◌≢◌, ◌≤◌, ℕ, List, [], ◌++◌, Some, None, Err, IfOk, OnOk};
+ghost use Rattle.std.specs.Prelude.{◌≡◌, ◌≢◌, ◌≤◌, ℕ, true, List, [], ◌++◌, Some, None, Err, IfOk, OnOk};
 ghost use Rattle.std.specs.FinMap as map;
 ghost use Rattle.dl_base.specs.Outside.{Moments, Says, Rose, extended};
 ghost use Rattle.dl_base.specs.declared.fault.Full.{Full};
 ghost use Rattle.fs_files.specs.Store.{Holds, IsReady};
 ghost use Rattle.meaning_areas.specs.FilesArea.{writes};
 ghost use Rattle.meaning_files.specs.Commands.{refusal, read_answer, answer_of, changed, file_command};
-ghost use Rattle.meaning_machine.specs.Turns.{IsTurn, Sessions as SessionsMeant};
-ghost use Rattle.meaning_script.specs.Lines.{IsBuilt};
+ghost use Rattle.meaning_machine.specs.Turns.{IsTurn, is_built_command, Sessions as SessionsMeant};
 ghost use Rattle.meaning_script.specs.Printed.{line_text};
 ghost use Rattle.meaning_script.specs.Steps.{turn_step, turn_answer, files_behind};
 ghost use Rattle.meaning_script.specs.declared.turn.Turn as turned;
 ghost use Rattle.run_turn.specs.Asking.{AsksBuilt};
-ghost use Rattle.datalinks.specs.Lines.{OthersRead, line_writes, IsInStep, IsInLine, IsAfterLine, IsFullStep, IsFullLine};
+ghost use Rattle.datalinks.specs.Lines.{OthersStand, line_writes, IsInStep, IsInLine, IsAfterLine, IsFullStep, IsFullLine};
 
 use dl_base::{
     Answer, Bench, FileCmd, FileWhat, List, Memory, Path, Refusal, Settings, StepFault, Text,
@@ -24,6 +23,7 @@ use run_turn::Sessions;
 use std::alloc::Global;
 
 /// Does a line, and tells its answer.
+#[tactic(auto, using(crate::proofs::Others::others_none, crate::proofs::Others::others_then, crate::proofs::Others::others_touch, crate::proofs::Others::others_say))]
 pub fn do_line<B: Bench>(
     alloc: Global,
     bench: &mut B,
@@ -43,7 +43,7 @@ pub fn do_line<B: Bench>(
     ensures limit { store.new.limit ≡ store.old.limit }
     ensures full { (full : Full) → result ≡ Err (StepFault.Full full) → (turn : turned.Turn) (later : SessionsMeant) → IsTurn given.entry.now sessions.old line.now turn later → IsFullLine store.old turn full }
     ensures room { OnOk result ((turn : turned.Turn) (later : SessionsMeant) → IsTurn given.entry.now sessions.old line.now turn later → (full : Full) → IsFullLine store.old turn full → ⊥) }
-    ensures others { OthersRead (B.outside bench.old) (B.outside bench.new) }
+    ensures others { OthersStand (B.outside bench.old) (B.outside bench.new) }
     ensures faults { (B.outside bench.old).faults ≤ (B.outside bench.new).faults }
     ensures device { result ≡ Err StepFault.Device → Rose (B.outside bench.old) (B.outside bench.new) }
 {
@@ -52,6 +52,7 @@ pub fn do_line<B: Bench>(
 }
 
 // Does what a line leads to, and tells its answer.
+#[tactic(auto, using(crate::proofs::Others::others_none, crate::proofs::Others::others_then, crate::proofs::Others::others_touch, crate::proofs::Others::others_say))]
 fn take_turn<B: Bench>(
     alloc: Global,
     bench: &mut B,
@@ -67,7 +68,7 @@ fn take_turn<B: Bench>(
     ensures limit { store.new.limit ≡ store.old.limit }
     ensures full { (full : Full) → result ≡ Err (StepFault.Full full) → IsFullLine store.old turn full }
     ensures room { OnOk result ((full : Full) → IsFullLine store.old turn full → ⊥) }
-    ensures others { OthersRead (B.outside bench.old) (B.outside bench.new) }
+    ensures others { OthersStand (B.outside bench.old) (B.outside bench.new) }
     ensures faults { (B.outside bench.old).faults ≤ (B.outside bench.new).faults }
     ensures device { result ≡ Err StepFault.Device → Rose (B.outside bench.old) (B.outside bench.new) }
 {
@@ -78,6 +79,7 @@ fn take_turn<B: Bench>(
 }
 
 // Tells the answer of a line.
+#[tactic(auto, using(crate::proofs::Others::others_none, crate::proofs::Others::others_then, crate::proofs::Others::others_touch, crate::proofs::Others::others_say))]
 fn tell<B: Bench>(
     alloc: Global,
     bench: &mut B,
@@ -87,7 +89,7 @@ fn tell<B: Bench>(
     ensures says { Says (line_text [] number answer) (B.outside bench.old) (B.outside bench.new) }
     ensures told { OnOk result ((B.outside bench.new).told ≡ extended (line_text [] number answer) (B.outside bench.old).told) }
     ensures not_full { (full : Full) → result ≢ Err (StepFault.Full full) }
-    ensures others { OthersRead (B.outside bench.old) (B.outside bench.new) }
+    ensures others { OthersStand (B.outside bench.old) (B.outside bench.new) }
     ensures faults { (B.outside bench.old).faults ≤ (B.outside bench.new).faults }
     ensures device { result ≡ Err StepFault.Device → Rose (B.outside bench.old) (B.outside bench.new) }
 {
@@ -105,6 +107,7 @@ fn told(alloc: Global, number: u64, answer: Answer) -> Result<Text, Memory>
 }
 
 // Does the step that a line leads to, if there is one, and gives its answer, if it is answered.
+#[tactic(auto, using(crate::proofs::Others::others_none, crate::proofs::Others::others_then, crate::proofs::Others::others_touch, crate::proofs::Others::others_say))]
 fn answer_turn<B: Bench>(
     bench: &mut B,
     store: &mut Files,
@@ -122,7 +125,7 @@ fn answer_turn<B: Bench>(
     ensures limit { store.new.limit ≡ store.old.limit }
     ensures full { (full : Full) → result ≡ Err (StepFault.Full full) → IsFullLine store.old turn full }
     ensures room { OnOk result ((full : Full) → IsFullLine store.old turn full → ⊥) }
-    ensures others { OthersRead (B.outside bench.old) (B.outside bench.new) }
+    ensures others { OthersStand (B.outside bench.old) (B.outside bench.new) }
     ensures faults { (B.outside bench.old).faults ≤ (B.outside bench.new).faults }
     ensures device { result ≡ Err StepFault.Device → Rose (B.outside bench.old) (B.outside bench.new) }
 {
@@ -134,9 +137,10 @@ fn answer_turn<B: Bench>(
 }
 
 // Does a command, and gives its answer.
+#[tactic(auto, using(crate::proofs::Others::others_none, crate::proofs::Others::others_then, crate::proofs::Others::others_touch, crate::proofs::Others::others_say))]
 fn step<B: Bench>(bench: &mut B, store: &mut Files, cmd: FileCmd) -> Result<Answer, StepFault>
     requires ready { IsReady store.old (B.outside bench.old) }
-    requires built { IsBuilt cmd.what }
+    requires built { is_built_command cmd.what ≡ true }
     ensures answer { IfOk result (λ answer. answer ≡ (file_command store.old.files cmd).0) }
     ensures files { OnOk result (store.new.files ≡ (file_command store.old.files cmd).1) }
     ensures kept { OnOk result ((bodies : List (List ℕ)) → Holds store.old bodies (B.outside bench.old) → Holds store.new (bodies ++ writes store.old.files cmd) (B.outside bench.new)) }
@@ -147,7 +151,7 @@ fn step<B: Bench>(bench: &mut B, store: &mut Files, cmd: FileCmd) -> Result<Answ
     ensures limit { store.new.limit ≡ store.old.limit }
     ensures full { (full : Full) → result ≡ Err (StepFault.Full full) → IsFullStep store.old cmd full }
     ensures room { OnOk result ((full : Full) → IsFullStep store.old cmd full → ⊥) }
-    ensures others { OthersRead (B.outside bench.old) (B.outside bench.new) }
+    ensures others { OthersStand (B.outside bench.old) (B.outside bench.new) }
     ensures faults { (B.outside bench.old).faults ≤ (B.outside bench.new).faults }
     ensures device { result ≡ Err StepFault.Device → Rose (B.outside bench.old) (B.outside bench.new) }
 {
@@ -158,9 +162,10 @@ fn step<B: Bench>(bench: &mut B, store: &mut Files, cmd: FileCmd) -> Result<Answ
 }
 
 // Does a command that is not refused.
+#[tactic(auto, using(crate::proofs::Others::others_none, crate::proofs::Others::others_then, crate::proofs::Others::others_touch, crate::proofs::Others::others_say))]
 fn accepted<B: Bench>(bench: &mut B, store: &mut Files, cmd: FileCmd) -> Result<Answer, StepFault>
     requires ready { IsReady store.old (B.outside bench.old) }
-    requires built { IsBuilt cmd.what }
+    requires built { is_built_command cmd.what ≡ true }
     requires accepted { refusal store.old.files cmd ≡ None }
     ensures answer { IfOk result (λ answer. answer ≡ answer_of store.old.files cmd.what) }
     ensures files { OnOk result (store.new.files ≡ changed store.old.files cmd) }
@@ -172,7 +177,7 @@ fn accepted<B: Bench>(bench: &mut B, store: &mut Files, cmd: FileCmd) -> Result<
     ensures limit { store.new.limit ≡ store.old.limit }
     ensures full { (full : Full) → result ≡ Err (StepFault.Full full) → IsFullStep store.old cmd full }
     ensures room { OnOk result ((full : Full) → IsFullStep store.old cmd full → ⊥) }
-    ensures others { OthersRead (B.outside bench.old) (B.outside bench.new) }
+    ensures others { OthersStand (B.outside bench.old) (B.outside bench.new) }
     ensures faults { (B.outside bench.old).faults ≤ (B.outside bench.new).faults }
     ensures device { result ≡ Err StepFault.Device → Rose (B.outside bench.old) (B.outside bench.new) }
 {

@@ -6,7 +6,7 @@ ghost use Rattle.dl_base.specs.declared.fault.Full.{Full};
 ghost use Rattle.fs_files.specs.Store.{Holds, IsReady};
 ghost use Rattle.meaning_machine.specs.Turns.{AreTurns};
 ghost use Rattle.meaning_script.specs.declared.turn.Turn.{Turn};
-ghost use Rattle.datalinks.specs.Lines.{OthersRead};
+ghost use Rattle.datalinks.specs.Lines.{OthersStand};
 ghost use Rattle.datalinks.specs.Run.{IsAfterSteps, IsFullAt, AreDone};
 
 use crate::line::do_line;
@@ -17,6 +17,7 @@ use run_turn::Sessions;
 use std::alloc::Global;
 
 /// Does the lines of a script in order, and tells each answer.
+#[tactic(auto, using(crate::proofs::Others::others_then))]
 pub fn run_lines<B: Bench>(
     alloc: Global,
     bench: &mut B,
@@ -33,7 +34,7 @@ pub fn run_lines<B: Bench>(
     ensures read { OnOk result ((turns : List Turn) × AreTurns given.entry.now sessions.old (lines script.now) turns) }
     ensures full { (full : Full) → result ≡ Err (StepFault.Full full) → (turns : List Turn) → AreTurns given.entry.now sessions.old (lines script.now) turns → (bodies : List (List ℕ)) → Holds store.old bodies (B.outside bench.old)
         → IsFullAt turns bodies store.old.files store.old.limit full }
-    ensures others { OthersRead (B.outside bench.old) (B.outside bench.new) }
+    ensures others { OthersStand (B.outside bench.old) (B.outside bench.new) }
     ensures faults { (B.outside bench.old).faults ≤ (B.outside bench.new).faults }
     ensures device { result ≡ Err StepFault.Device → Rose (B.outside bench.old) (B.outside bench.new) }
 {

@@ -9,7 +9,7 @@ ghost use Rattle.dl_base.specs.declared.step.Settings as told;
 ghost use Rattle.meaning_script.specs.declared.turn.Turn.{Turn};
 ghost use Rattle.datalinks.specs.Codes.{IsRunEnd, IsUsage, opening_end, step_end, script_end};
 ghost use Rattle.datalinks.specs.Complete.{IsDone, HasRoom, WasRead, WasOpened, StandsNow};
-ghost use Rattle.datalinks.specs.Lines.{OthersRead};
+ghost use Rattle.datalinks.specs.Lines.{OthersStand};
 ghost use Rattle.datalinks.specs.Run.{Runs, Begun, Begins, IsEntry, IsSeen, AllStand, IsAfterSteps, IsInRun, IsWholeRun, IsFullAt, IsNoStore};
 ghost use Rattle.datalinks.specs.Script.{IsTooLong, most_bytes};
 ghost use Rattle.run_words.specs.Words.{settings};
@@ -25,6 +25,7 @@ use std::alloc::Global;
 
 /// Does the command that the words name, on one thread: `run` reads a script from the source, does its lines in order
 /// on what stands on the bench, and tells their answers.
+#[tactic(auto, using(crate::proofs::Others::others_none))]
 pub fn single<S: Source, B: Bench>(
     alloc: Global,
     words: &[Text],
@@ -48,8 +49,8 @@ pub fn single<S: Source, B: Bench>(
     ensures left { (run : Begun) → Begins words.now (S.rest source.old) (B.outside bench) run
         → (p : Pair) → IsSeen (B.outside result.1) p → IsAfterSteps run.turns run.bodies run.files (B.outside bench).told p }
 
-    // However it ends, no area but Files is written: tables last for the run alone.
-    ensures others { OthersRead (B.outside bench) (B.outside result.1) }
+    // However it ends, no area but Files is written, at no moment: tables last for the run alone.
+    ensures others { OthersStand (B.outside bench) (B.outside result.1) }
 
     // Every other end has its cause.
     ensures device { result.0 ≡ Status.Device → Rose (B.outside bench) (B.outside result.1) }
@@ -74,6 +75,7 @@ pub fn single<S: Source, B: Bench>(
 }
 
 // Does a run of these settings.
+#[tactic(auto, using(crate::proofs::Others::others_none))]
 fn command<S: Source, B: Bench>(
     alloc: Global,
     given: &Settings,
@@ -93,7 +95,7 @@ fn command<S: Source, B: Bench>(
     ensures left { (script : List ℕ) → S.rest source.old ≡ Some script → (turns : List Turn) → Runs given.entry.now script turns
         → (bodies : List (List ℕ)) (files : FilesByPath) → IsEntry (B.outside bench) bodies files
         → (p : Pair) → IsSeen (B.outside result.1) p → IsAfterSteps turns bodies files (B.outside bench).told p }
-    ensures others { OthersRead (B.outside bench) (B.outside result.1) }
+    ensures others { OthersStand (B.outside bench) (B.outside result.1) }
     ensures device { result.0 ≡ Status.Device → Rose (B.outside bench) (B.outside result.1) }
     ensures source { result.0 ≡ Status.Source → RoseFrom (S.faults source.old) (S.faults source.new) × (result.1 ≡ bench) }
     ensures too_long { (n : ℕ) → result.0 ≡ Status.TooLong n → IsTooLong n (S.rest source.old) × (result.1 ≡ bench) }
@@ -135,7 +137,7 @@ fn run<B: Bench>(alloc: Global, mut bench: B, given: &Settings, script: &[u8]) -
         → Moments (IsInRun turns bodies files (B.outside bench)) (B.outside bench) (B.outside result.1) }
     ensures left { (turns : List Turn) → Runs given.entry.now script.now turns → (bodies : List (List ℕ)) (files : FilesByPath) → IsEntry (B.outside bench) bodies files
         → (p : Pair) → IsSeen (B.outside result.1) p → IsAfterSteps turns bodies files (B.outside bench).told p }
-    ensures others { OthersRead (B.outside bench) (B.outside result.1) }
+    ensures others { OthersStand (B.outside bench) (B.outside result.1) }
     ensures device { result.0 ≡ Status.Device → Rose (B.outside bench) (B.outside result.1) }
     ensures not_a_store { (area : Area) (place : ℕ) → result.0 ≡ Status.NotAStore area place → IsNoStore area place (B.outside bench) (B.outside result.1) }
     ensures full { (full : Full) → result.0 ≡ Status.Full full → (turns : List Turn) → Runs given.entry.now script.now turns → (bodies : List (List ℕ)) (files : FilesByPath) → IsEntry (B.outside bench) bodies files

@@ -20,7 +20,7 @@ use Rattle.meaning_sql.specs.declared.Context.{Context}
 use Rattle.meaning_tables.specs.Tables.{Tables}
 use Rattle.run_script.specs.Actors.{actor_of, is_extra, with_actor}
 use Rattle.run_lines.specs.Reading.{Reads}
-use Rattle.sql_run.specs.Outcomes.{Evaluated, evaluated, answer_of}
+use Rattle.sql_run.specs.Outcomes.{evaluated, answer_of}
 use Rattle.run_script.specs.declared.kind.Line.{Line}
 use Rattle.run_script.specs.declared.kind.Line.TheVariants as lines
 use Rattle.run_script.specs.declared.kind.Sentence.{Sentence}

@@ -1,10 +1,8 @@
 -- What a line of a script is read as. The lines of a script are those of std's `lines`.
-use Rattle.std.specs.Prelude.{ℕ, Bool, ◌&&◌, ◌||◌, not, ◌==◌, nat_le, List, length, codes, None}
+use Rattle.std.specs.Prelude.{ℕ, Bool, ◌&&◌, ◌||◌, not, ◌==◌, nat_le, List, length, codes}
 use Rattle.std.specs.Cmp.Lexicographic.{pointwise}
 use Rattle.std.specs.List.{list_all, starts_with}
 use Rattle.dl_base.specs.Name.{name_test}
-use Rattle.dl_base.specs.declared.file.FileWhat.{FileWhat}
-use Rattle.dl_base.specs.declared.file.FileWhat.TheVariants.{Create, Read, Delete}
 
 -- how many bytes a line may have
 abbrev pub most_bytes : ℕ
@@ -20,10 +18,3 @@ is_quiet line = list_all is_blank line || starts_with ◌==◌ line (codes "--")
 -- a user: a name of at most 16 bytes, but not the file manager's own
 unfoldable pub is_user : List ℕ → Bool
 is_user name = name_test name && nat_le (length name) 16 && not (pointwise ◌==◌ name (codes "dlfm"))
-
--- the commands that are built
-abbrev pub IsBuilt : FileWhat → Type 0
-IsBuilt (Create path bytes) = Unit {0}
-IsBuilt (Read path None) = Unit {0}
-IsBuilt (Delete path) = Unit {0}
-IsBuilt _ = ⊥

@@ -1,5 +1,5 @@
 -- Each line is read as something, and as one thing.
-use Rattle.std.proofs.Common.{◌≡◌, ◌≢◌, ◌+◌, ℕ, List, drop, Result, Ok, Err, refl, sym, ◌∙◌}
+use Rattle.std.proofs.Common.{◌≡◌, ◌≢◌, ◌+◌, ℕ, List, drop, Ok, Err, refl, sym, ◌∙◌}
 use Rattle.dl_base.specs.declared.answer.Refusal.TheVariants as refusals
 use Rattle.run_script.specs.Outlines.{bad_at, outline}
 use Rattle.run_script.specs.declared.kind.Line.{Line}

@@ -1,5 +1,5 @@
 -- The places that a parser names are those of bytes of its text, or one past them.
-use Rattle.std.proofs.Common.{◌≡◌, Err, subst, ℕ, zero, suc, ◌+◌, ◌≤◌, List, [], ◌∷◌, ◌++◌, length, Option, Some, None, ap, ◌∙◌, arith, length-append, slice_get}
+use Rattle.std.proofs.Common.{◌≡◌, Err, subst, ℕ, zero, suc, ◌+◌, ◌≤◌, List, [], ◌∷◌, ◌++◌, length, ap, ◌∙◌, arith, length-append, slice_get}
 use Rattle.sql_lex.specs.Lexes.{LexesTo, Lexes, BadByte, IsBad}
 use Rattle.sql_lex.specs.declared.lexeme.Lexeme.{Lexeme}
 use Rattle.sql_syntax.specs.Parsing.{IsSyntaxAt, Parses, begin_or}

@@ -1,10 +1,9 @@
 -- The steps that a line takes, one after another, and its answer.
-use Rattle.std.specs.Prelude.{ℕ, ◌+◌, ◌-◌, Bool, true, false, if◌then◌else◌, List, [], ◌∷◌, length, Option, Some, None, slice_get, position}
+use Rattle.std.specs.Prelude.{ℕ, ◌-◌, Bool, true, false, if◌then◌else◌, List, [], ◌∷◌, length, Option, Some, None, slice_get, position}
 use Rattle.dl_base.specs.declared.answer.Answer.{Answer}
 use Rattle.dl_base.specs.declared.answer.Answer.TheVariants as answers
 use Rattle.dl_base.specs.declared.answer.Refusal.{Refusal}
 use Rattle.dl_base.specs.declared.answer.Refusal.TheVariants as refusals
-use Rattle.dl_base.specs.declared.file.FileCmd.{FileCmd}
 use Rattle.dl_base.specs.declared.statement.Stmt.{Stmt}
 use Rattle.dl_base.specs.declared.statement.Stmt.TheVariants as statements
 use Rattle.dl_base.specs.declared.step.Phase.{Phase}

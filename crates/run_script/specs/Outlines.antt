@@ -1,5 +1,5 @@
 -- What a line of a script is, as far as it is no statement. Places count the bytes of a line from 1.
-use Rattle.std.specs.Prelude.{ℕ, ◌≤◌, ◌+◌, ◌==◌, ◌||◌, not, nat_lt, if◌then◌else◌, List, [], ◌∷◌, length, take, drop, codes, Option, Some, None, Result, Ok, Err}
+use Rattle.std.specs.Prelude.{ℕ, ◌≤◌, ◌+◌, ◌==◌, not, nat_lt, if◌then◌else◌, List, [], ◌∷◌, length, take, drop, codes, Option, Some, None, Result, Ok, Err}
 use Rattle.std.specs.List.{position, prefix_len}
 use Rattle.dl_base.specs.declared.answer.Refusal.TheVariants as refusals
 use Rattle.fs_command.specs.Commands.{command, is, is_session}

@@ -1,11 +1,11 @@
 -- One piece more at the end of what is joined.
-use Rattle.std.proofs.Common.{◌≡◌, ℕ, ◌+◌, ◌<◌, length, take, get_or, Bool, true, false, ◌||◌, cond, List, [], ◌∷◌, ◌++◌, map, refl, sym, ap, ◌∙◌, append_assoc}
-use Rattle.std.proofs.lemmas.List.{append-nil, take_more}
-use Rattle.sql_lex.specs.Joined.{Piece, is_dot, joined}
+use Rattle.std.proofs.Common.{◌≡◌, ℕ, ◌+◌, ◌<◌, length, take, get_or, Bool, true, false, ◌||◌, cond, List, [], ◌∷◌, ◌++◌, refl, sym, ap, ◌∙◌, append_assoc}
+use Rattle.std.proofs.lemmas.List.{take_more}
+use Rattle.sql_lex.specs.Joined.{is_dot}
 use Rattle.sql_lex.specs.Spelling.{doubled}
 use Rattle.std.proofs.Common.{eqb}
 use Rattle.sql_grammar.specs.declared.ink.Ink.{Ink}
-use Rattle.sql_print.specs.Writing.{ink_kind, ink_bytes, piece_of, joined_inks, gap}
+use Rattle.sql_print.specs.Writing.{ink_kind, ink_bytes, joined_inks, gap}
 
 -- whether no blank follows
 abbrev pub tight_after : List Ink → Bool

@@ -1,6 +1,5 @@
 -- What is printed of a statement is read as that statement.
-use Rattle.std.proofs.Common.{◌≡◌, ℕ, zero, suc, ◌<◌, ◌≤◌, Bool, true, false, List, [], ◌∷◌, ◌++◌, length, map, Option, Some, None, refl, sym, ap, ◌∙◌, subst, arith}
-use Rattle.std.specs.Prelude.{slice_index_or}
+use Rattle.std.proofs.Common.{◌≡◌, ℕ, suc, Bool, true, false, List, [], ◌∷◌, map, Option, Some, None, refl, sym, ap, ◌∙◌, subst, arith}
 use Rattle.std.specs.List.{All}
 use Rattle.std.specs.Char.{to_ascii_uppercase}
 use Rattle.dl_base.specs.Name.{name_test}
@@ -25,10 +24,9 @@ use Rattle.sql_grammar.specs.Inks.{function_name, said_by, inked}
 use Rattle.sql_grammar.specs.Dots.{is_dot, is_word, Dotted}
 use Rattle.sql_grammar.specs.Printing.{printed}
 use Rattle.sql_grammar.specs.Statements.{Statement}
-use Rattle.sql_grammar.proofs.Again.{Again}
 use Rattle.sql_grammar.proofs.Reprinted.{prints_statement}
 use Rattle.sql_grammar.specs.Meaning.{terminals, Means}
-use Rattle.sql_print.specs.Writing.{mark_kind, ink_kind, ink_bytes, piece_of, joined_inks, text_of}
+use Rattle.sql_print.specs.Writing.{mark_kind, ink_kind, ink_bytes, piece_of, text_of}
 
 -- the laws of the lexer
 abbrev pub Written : Type 0

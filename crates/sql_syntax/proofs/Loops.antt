@@ -1,12 +1,12 @@
 -- Reading a list part by part, as a loop does.
-use Rattle.std.proofs.Common.{◌≡◌, ℕ, zero, suc, ◌+◌, ◌≤◌, ◌<◌, Bool, true, false, cond, List, [], ◌∷◌, ◌++◌, length, Option, Some, None, Result, Ok, Err, refl, sym, ap, ◌∙◌, arith, append_assoc}
+use Rattle.std.proofs.Common.{◌≡◌, ℕ, zero, suc, ◌+◌, ◌<◌, Bool, true, false, cond, List, [], ◌∷◌, ◌++◌, length, Option, Some, None, Result, Ok, Err, refl, sym, ap, ◌∙◌, arith, append_assoc}
 use Rattle.std.proofs.lemmas.List.{append-nil}
 use Rattle.std.proofs.lemmas.Option.{slice_get_within}
 use Rattle.std.specs.Prelude.{slice_get}
 use Rattle.sql_grammar.specs.declared.mark.Mark.TheVariants as mark
 use Rattle.sql_grammar.specs.declared.token.Token.TheVariants as token
 use Rattle.sql_grammar.specs.declared.terminal.Terminal.{Terminal}
-use Rattle.sql_grammar.specs.Lang.{Reader, ◌>>=◌, good, beside, is_token, token_at, after_at, then_at, map_at, repeat_at, many_at, listed_at}
+use Rattle.sql_grammar.specs.Lang.{Reader, ◌>>=◌, good, beside, is_token, token_at, after_at, repeat_at, many_at, listed_at}
 use Rattle.sql_precedence.specs.declared.refused.Refused.{Refused}
 use Rattle.sql_precedence.specs.declared.refused.Refused.TheVariants as refused
 use Rattle.sql_precedence.specs.Results.{Fails}

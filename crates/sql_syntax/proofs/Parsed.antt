@@ -1,5 +1,5 @@
 -- What an answer says, by the laws of reading.
-use Rattle.std.proofs.Common.{◌≡◌, ℕ, zero, suc, ◌<◌, ◌≤◌, List, map, Result, Ok, Err, ◌⊎◌, inl, inr, refl, sym, ap, ◌∙◌, subst, arith}
+use Rattle.std.proofs.Common.{◌≡◌, ℕ, List, Result, Ok, Err, refl, sym, ap, ◌∙◌, subst}
 use Rattle.dl_base.specs.declared.statement.Stmt.{Stmt}
 use Rattle.sql_lex.specs.declared.lexeme.Lexeme.{Lexeme}
 use Rattle.sql_lex.specs.Lexes.{Lexes, IsBad}
@@ -11,8 +11,8 @@ use Rattle.sql_grammar.proofs.Whole.{IsExactOf, exact_of, whole_reads, same_faul
 use Rattle.sql_grammar.proofs.Statements.{AtEnd, has_statement, reads_statement}
 use Rattle.sql_syntax.specs.declared.parser.ParseFault.{ParseFault}
 use Rattle.sql_syntax.specs.declared.parser.ParseFault.TheVariants as fault
-use Rattle.sql_grammar.specs.Meaning.{terminals, Means}
-use Rattle.sql_syntax.specs.Parsing.{place_in, IsSyntaxAt, Parses, Agrees, Shown}
+use Rattle.sql_grammar.specs.Meaning.{terminals}
+use Rattle.sql_syntax.specs.Parsing.{place_in, Parses, Agrees, Shown}
 
 pub exact : (ws : List Terminal) → IsExactOf Statement ws (whole_at statement_at ws)
 exact ws = exact_of statement_at Statement AtEnd ws has_statement reads_statement refl

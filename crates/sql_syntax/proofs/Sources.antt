@@ -1,5 +1,5 @@
 -- The conditions of one source more.
-use Rattle.std.proofs.Common.{◌≡◌, List, [], ◌∷◌, ◌++◌, Option, Some, None, refl, ap}
+use Rattle.std.proofs.Common.{◌≡◌, List, [], ◌∷◌, ◌++◌, Some, None, refl, ap}
 use Rattle.dl_base.specs.declared.statement.Expr.{Expr}
 use Rattle.sql_grammar.specs.Statements.{Following, conditions_of}
 

@@ -1,6 +1,6 @@
 //! More than three hundred texts with what is answered to them are the input and the output of the program `sql_echo`.
 use crate::{ParseFault, parse};
-use dl_base::{ColumnDef, Expr, Key, KindDef, Op, Select, Stmt};
+use dl_base::{ColumnDef, Expr, Key, KeyBy, KindDef, Op, Select, Stmt};
 use std::alloc::Global;
 use std::test::Fail;
 
@@ -44,18 +44,29 @@ fn is_chain(condition: &Expr) -> bool {
     }
 }
 
+// Whether a key is a name, in descending order.
 fn is_descending(key: Option<&Key>) -> bool {
     match key {
-        Some(key) => key.descending,
+        Some(key) => matches!(key.by, KeyBy::Name(_)) && key.descending,
+        None => false,
+    }
+}
+
+// Whether a key is the first item, in ascending order.
+fn is_first(key: Option<&Key>) -> bool {
+    match key {
+        Some(key) => matches!(key.by, KeyBy::Place(1)) && !key.descending,
         None => false,
     }
 }
 
 fn is_selection(select: &Select) -> bool {
-    select.from.len() == 3
+    select.items.is_none()
+        && select.from.len() == 3
+        && select.conditions.len() == 1
         && matches!(select.conditions.at(0), Some(Expr::IsNull(_, false)))
         && is_descending(select.order.at(0))
-        && !is_descending(select.order.at(1))
+        && is_first(select.order.at(1))
 }
 
 fn is_column(column: Option<&ColumnDef>) -> bool {

@@ -1,4 +1,3 @@
-use Rattle.std.proofs.Common.{◌<◌, ◌≤◌, ◌⊎◌, inl, inr, ⊎_elim, arith}
 use Rattle.datalinks.proofs.Causes.{rose_later}
 use Rattle.datalinks.proofs.line.take_turn.Goals as goal
 

@@ -1,8 +1,9 @@
-use Rattle.std.proofs.Common.{◌≡◌, ℕ, ◌+◌, ◌≤◌, List, [], length, refl, sym, ap, subst, ◌∙◌, arith, Err}
+use Rattle.std.proofs.Common.{ℕ, List, [], refl, sym, ap, subst, ◌∙◌, arith}
 use Rattle.std.specs.Str.Lines.{lines}
 use Rattle.dl_base.proofs.Moments.{moments_none, moments_then}
 use Rattle.meaning_machine.specs.Turns.{AreTurns}
 use Rattle.datalinks.specs.Run.{IsAfterSteps, IsFullAt}
+use Rattle.datalinks.proofs.Others.{others_none, others_then}
 use Rattle.datalinks.proofs.Reading.{left_none, left_next, left_moments, left_full, left_all, made_next}
 use Rattle.datalinks.proofs.Turning.{empty_is}
 use Rattle.datalinks.proofs.run.run_lines.Goals as goal
@@ -13,7 +14,7 @@ loop-rest-init g c = record {
   limit = refl;
   numbered = omega arith;
   faults = omega arith;
-  others = λ a other. refl;
+  others = others_none (g.B.Bench.outside c.args.bench.now);
   made = λ more are. (more, are);
   reached = λ turns are bodies held. left_none c.args.given.now c.args.sessions.now (lines c.args.script.now) turns are bodies c.args.store.now (g.B.Bench.outside c.args.bench.now) held;
   moments = λ turns are bodies held. moments_none (IsAfterSteps turns bodies c.args.store.now.files (g.B.Bench.outside c.args.bench.now).told) (g.B.Bench.outside c.args.bench.now);
@@ -48,7 +49,7 @@ loop-rest-preserved g c =
       limit = c.do_line.ensures.limit ∙ c.loop-rest.invariant.limit;
       numbered = omega (arith, c.loop-rest.invariant.numbered, c.first_line.ensures.shorter);
       faults = omega (arith, c.loop-rest.invariant.faults, c.do_line.ensures.faults);
-      others = λ a other. c.do_line.ensures.others a other ∙ c.loop-rest.invariant.others a other;
+      others = others_then o m n c.loop-rest.invariant.others c.do_line.ensures.others;
       made = made_next c.args.given.now c.args.sessions.now (lines c.args.script.now) c.loop-rest.sessions (lines c.loop-rest.rest.now) c.first_line.result.0.now (lines c.first_line.result.1.now) c.do_line.new.sessions
           c.loop-rest.invariant.made c.first_line.ensures.first c.in-Ok.ensures.read;
       reached = λ turns are bodies held. left_next c.args.given.now c.loop-rest.sessions (lines c.loop-rest.rest.now) turns bodies c.args.store.now o c.loop-rest.store c.loop-rest.number m

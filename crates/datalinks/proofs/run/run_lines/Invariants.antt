@@ -4,7 +4,7 @@ use Rattle.dl_base.specs.Outside.{Moments}
 use Rattle.fs_files.specs.Store.{Holds, IsReady}
 use Rattle.meaning_machine.specs.Turns.{AreTurns}
 use Rattle.meaning_script.specs.declared.turn.Turn.{Turn}
-use Rattle.datalinks.specs.Lines.{OthersRead}
+use Rattle.datalinks.specs.Lines.{OthersStand}
 use Rattle.datalinks.specs.Run.{IsAfterSteps}
 use Rattle.datalinks.proofs.Reading.{Left, Made}
 use Rattle.datalinks.proofs.run.run_lines.Given as goal
@@ -15,7 +15,7 @@ invariant-loop-rest g l = record {
   limit : l.store.limit ≡ l.initial.store.limit;
   numbered : l.number + length l.rest ≤ length l.script + 1;
   faults : (g.B.Bench.outside l.initial.bench).faults ≤ (g.B.Bench.outside l.bench).faults;
-  others : OthersRead (g.B.Bench.outside l.initial.bench) (g.B.Bench.outside l.bench);
+  others : OthersStand (g.B.Bench.outside l.initial.bench) (g.B.Bench.outside l.bench);
   made : Made l.given l.initial.sessions (lines l.script) l.sessions (lines l.rest);
   reached : (turns : List Turn) → AreTurns l.given l.initial.sessions (lines l.script) turns → (bodies : List (List ℕ)) → Holds l.initial.store bodies (g.B.Bench.outside l.initial.bench)
       → Left l.given l.sessions (lines l.rest) turns bodies l.initial.store (g.B.Bench.outside l.initial.bench) l.store l.number (g.B.Bench.outside l.bench);

@@ -1,4 +1,4 @@
-use Rattle.std.proofs.Common.{◌≡◌, ◌+◌, ◌-◌, ◌≤◌, length}
+use Rattle.std.proofs.Common.{◌+◌, ◌-◌, ◌≤◌, length}
 use Rattle.dl_base.specs.Sources.{Took}
 use Rattle.datalinks.specs.Script.{most_bytes}
 use Rattle.datalinks.proofs.script.read_script.Given as goal

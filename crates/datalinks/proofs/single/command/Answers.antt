@@ -1,11 +1,9 @@
-use Rattle.std.proofs.Common.{◌≡◌, ◌≤◌, ℕ, List, length, Err, ap, subst, sym, ◌∙◌, arith}
-use Rattle.dl_base.specs.Outside.{Moments, Pair}
-use Rattle.meaning_script.specs.declared.turn.Turn.{Turn}
+use Rattle.std.proofs.Common.{◌≡◌, ℕ, List, length, Err, ap, subst, sym, ◌∙◌, arith}
 use Rattle.datalinks.proofs.Complete.{run_done, script_done}
 use Rattle.datalinks.proofs.Left.{left_alone}
 use Rattle.datalinks.proofs.Whole.{run_since}
 use Rattle.datalinks.specs.Complete.{IsDone}
-use Rattle.datalinks.specs.Run.{Runs, IsInRun, IsAfterSteps, IsWholeRun, IsFullAt}
+use Rattle.datalinks.specs.Run.{Runs}
 use Rattle.datalinks.proofs.single.command.Goals as goal
 
 pub returns-in-Ok-clause-read : goal.returns-in-Ok-clause-read

@@ -1,9 +1,12 @@
-use Rattle.std.proofs.Common.{◌≡◌, ℕ, List, Err, ap, sym, subst, ◌∙◌}
+use Rattle.std.proofs.Common.{ℕ, Err, ap, sym, subst, ◌∙◌}
 use Rattle.std.specs.Str.Lines.{lines}
+use Rattle.dl_base.specs.declared.area.Area.TheVariants as areas
+use Rattle.dl_journal.specs.Open.{IsOpening}
 use Rattle.meaning_files.specs.Files.{Files}
-use Rattle.meaning_machine.specs.Turns.{Sessions, AreTurns, no_sessions}
-use Rattle.datalinks.proofs.Whole.{store_is, holds_entry, full_fault, whole_run, run_opening, run_then}
+use Rattle.meaning_machine.specs.Turns.{Sessions, AreTurns}
+use Rattle.datalinks.proofs.Whole.{store_is, holds_entry, full_fault, whole_run, run_then}
 use Rattle.datalinks.proofs.Left.{left_opening, left_lines}
+use Rattle.datalinks.proofs.Others.{others_touch, others_then}
 use Rattle.datalinks.specs.Run.{IsFullAt}
 use Rattle.datalinks.proofs.single.run.Goals as goal
 
@@ -20,6 +23,15 @@ returns-in-Ok-run_lines-clause-whole g c _ turns runs bodies files entry =
 
 pub returns-in-Ok-run_lines-clause-history : goal.returns-in-Ok-run_lines-clause-history
 returns-in-Ok-run_lines-clause-history g c turns runs bodies files entry all =
+    let o = g.B.Bench.outside c.args.bench in
+    let m = g.B.Bench.outside c.begin.new.bench in
+    let opened = c.in-Ok.ensures.opened in
+    let begun = subst (λ (s : Sessions). AreTurns c.args.given.now s (lines c.args.script.now) turns) (sym c.new-sessions.ensures) runs in
+    run_then o bodies files entry all turns c.in-Ok.store m (g.B.Bench.outside c.run_lines.new.bench) c.begin.ensures.images (store_is o bodies files entry opened.0 opened.1 c.in-Ok.store m opened.2)
+    (c.run_lines.ensures.images turns begun bodies (holds_entry o bodies files entry opened.0 opened.1 c.in-Ok.store m opened.2))
+
+pub returns-in-Ok-clause-history : goal.returns-in-Ok-clause-history
+returns-in-Ok-clause-history g c turns runs bodies files entry all =
     let o = g.B.Bench.outside c.args.bench in
     let m = g.B.Bench.outside c.begin.new.bench in
     let opened = c.in-Ok.ensures.opened in
@@ -63,3 +75,18 @@ returns-in-Ok-clause-full g c full is turns runs bodies files entry =
     (holds_entry o bodies files entry opened.0 opened.1 c.in-Ok.store m opened.2) in
     subst (λ (l : ℕ). IsFullAt turns bodies files l full) c.in-Ok.ensures.limit
     (subst (λ (x : Files). IsFullAt turns bodies x c.in-Ok.store.limit full) (store_is o bodies files entry opened.0 opened.1 c.in-Ok.store m opened.2) at)
+
+pub returns-in-Ok-run_lines-clause-others : goal.returns-in-Ok-run_lines-clause-others
+returns-in-Ok-run_lines-clause-others g c =
+    let o = g.B.Bench.outside c.args.bench in
+    let m = g.B.Bench.outside c.begin.new.bench in
+    others_then o m (g.B.Bench.outside c.run_lines.new.bench) (others_touch (IsOpening areas.Files o) o m c.begin.ensures.images) c.run_lines.ensures.others
+
+pub returns-in-Ok-clause-others : goal.returns-in-Ok-clause-others
+returns-in-Ok-clause-others g c =
+    let o = g.B.Bench.outside c.args.bench in
+    let m = g.B.Bench.outside c.begin.new.bench in
+    others_then o m (g.B.Bench.outside c.run_lines.new.bench) (others_touch (IsOpening areas.Files o) o m c.begin.ensures.images) c.run_lines.ensures.others
+
+pub returns-clause-others : goal.returns-clause-others
+returns-clause-others g c = others_touch (IsOpening areas.Files (g.B.Bench.outside c.args.bench)) (g.B.Bench.outside c.args.bench) (g.B.Bench.outside c.begin.new.bench) c.begin.ensures.images

@@ -1,4 +1,4 @@
-use Rattle.std.proofs.Common.{◌≡◌, Ok, Err, refl}
+use Rattle.std.proofs.Common.{Ok, refl}
 use Rattle.run_script.specs.declared.kind.Line.TheVariants as lines
 use Rattle.run_script.specs.declared.kind.Sentence.TheVariants as sentences
 use Rattle.run_lines.proofs.Only.{only_line, shown_line, shown_only}

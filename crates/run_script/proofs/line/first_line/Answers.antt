@@ -1,4 +1,4 @@
-use Rattle.std.proofs.Common.{◌≡◌, ◌+◌, List, ℕ, ◌∷◌, drop, sym, ap, ◌∙◌}
+use Rattle.std.proofs.Common.{◌+◌, List, ℕ, ◌∷◌, drop, sym, ap, ◌∙◌}
 use Rattle.std.proofs.lemmas.List.{take_rest}
 use Rattle.std.specs.Str.Lines.{lines}
 use Rattle.run_script.proofs.FirstLine.{lines_first, lines_last}

@@ -1,4 +1,4 @@
-use Rattle.std.proofs.Common.{◌≡◌, ℕ, List, ◌++◌, ◌∷◌, [], take, get_or, sym, ap, ◌∙◌, append_assoc}
+use Rattle.std.proofs.Common.{ℕ, List, ◌++◌, ◌∷◌, [], take, get_or, sym, ap, ◌∙◌, append_assoc}
 use Rattle.sql_lex.specs.Spelling.{doubled}
 use Rattle.sql_print.proofs.Joins.{doubled_step}
 use Rattle.sql_print.proofs.writing.put_doubled.Goals as goal

@@ -1,13 +1,10 @@
-use Rattle.std.proofs.Common.{◌≡◌, ℕ, List, Result, Ok, Err, refl, sym, ap, ◌∙◌, subst}
+use Rattle.std.proofs.Common.{◌≡◌, ℕ, List, Result, Ok, Err, sym, subst}
 use Rattle.sql_lex.specs.declared.lexeme.Lexeme.{Lexeme}
 use Rattle.sql_lex.specs.declared.lexeme.LexFault.{LexFault}
 use Rattle.sql_lex.specs.declared.lexeme.LexFault.TheVariants.{BadChar}
-use Rattle.sql_lex.specs.Lexes.{Lexes, IsBad, Gives}
-use Rattle.sql_grammar.specs.Lang.{whole_at}
-use Rattle.sql_grammar.specs.Reading.{statement_at}
+use Rattle.sql_lex.specs.Lexes.{Gives}
 use Rattle.sql_syntax.specs.declared.parser.ParseFault.TheVariants as fault
-use Rattle.sql_grammar.specs.Meaning.{terminals}
-use Rattle.sql_syntax.specs.Parsing.{Shown, Agrees}
+use Rattle.sql_syntax.specs.Parsing.{Agrees}
 use Rattle.sql_syntax.proofs.Parsed.{Alone, is_exact, is_only, is_bad_only}
 use Rattle.sql_syntax.proofs.parser.parse.Goals as goal
 

@@ -1,4 +1,4 @@
-use Rattle.std.proofs.Common.{◌≡◌, ◌+◌, ◌∷◌, ◌++◌, [], Ok, sym, ap, subst, ◌∙◌, arith, add-one}
+use Rattle.std.proofs.Common.{◌≡◌, ◌+◌, sym, ap, subst, ◌∙◌, arith, add-one}
 use Rattle.sql_grammar.specs.Lang.{listed_at}
 use Rattle.sql_precedence.specs.Results.{Fails}
 use Rattle.sql_syntax.proofs.Loops.{comma, led, led_at, begins_list, no_list, goes_on, fails}

@@ -1,4 +1,4 @@
-use Rattle.std.proofs.Common.{◌≡◌, ◌∷◌, ◌++◌, [], sym, ap, subst, ◌∙◌, arith}
+use Rattle.std.proofs.Common.{sym, ◌∙◌, arith}
 use Rattle.sql_grammar.specs.Lang.{many_at}
 use Rattle.sql_syntax.proofs.Loops.{at_first, goes_on, within_by}
 use Rattle.sql_syntax.proofs.part.many.Goals as goal
