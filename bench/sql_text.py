@@ -223,11 +223,12 @@ def main():
             print("%s, %d bytes: %d lexemes, read in %d ns (%.0f lexemes a second), printed in %d ns" % (
                 kind, sizes[kind, length], lexemes, reading, lexemes * 1e9 / reading, printing))
         for less, twice in TWICE:
-            reading, printing = (by_key[kind, twice][place] / by_key[kind, less][place] for place in (3, 4))
-            is_told = by_key[kind, less][4] * SHORT >= by_key[kind, less][3]
-            status |= reading > MOST or is_told and not 0 < printing <= MOST
-            print("%s, %d bytes for %d: %.2f times the time to read, which is to be at most %.1f, and %s to print" % (
-                kind, twice, less, reading, MOST, "%.2f, as well," % printing if is_told else "too short a time"))
+            once, double = by_key[kind, less], by_key[kind, twice]
+            reading = double[3] / once[3]
+            printing = double[4] / once[4] if once[4] * SHORT >= once[3] else None
+            status |= reading > MOST or printing is not None and not 0 < printing <= MOST
+            print("%s, %d bytes for %d: %.2f times the time to read, %s to print; at most %.1f is wanted" % (
+                kind, twice, less, reading, "too short a time" if printing is None else "%.2f times" % printing, MOST))
     sys.exit(status)
 
 
