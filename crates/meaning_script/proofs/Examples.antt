@@ -1,0 +1,449 @@
+-- Lines and answers: which lines are quiet, what is printed of values, answers and refusals, and what is told of a script.
+use Rattle.std.proofs.Common.{◌≡◌, ◌+◌, ◌*◌, ◌^◌, ℕ, suc, Bool, true, false, List, [], ◌∷◌, ◌++◌, codes, Some, None, replicate, refl, ap, ◌∙◌, pos, negsuc}
+use Rattle.std.specs.Cmp.Lexicographic.{slice_cmp, nat_list_cmp_total}
+use Rattle.std.specs.FinMap as map
+use Rattle.std.specs.Fmt.{digits}
+use Rattle.std.specs.Ordering.{nat_cmp}
+use Rattle.dl_base.specs.Name.{name_test}
+use Rattle.dl_base.specs.declared.answer.Answer.{Answer}
+use Rattle.dl_base.specs.declared.answer.Answer.TheVariants as answers
+use Rattle.dl_base.specs.declared.answer.ClaimRefusal.TheVariants as claims
+use Rattle.dl_base.specs.declared.answer.FileRefusal.TheVariants as refusals
+use Rattle.dl_base.specs.declared.answer.Limit.TheVariants as limits
+use Rattle.dl_base.specs.declared.answer.Refusal.TheVariants as reasons
+use Rattle.dl_base.specs.declared.answer.RestoreRefusal.TheVariants as restores
+use Rattle.dl_base.specs.declared.answer.Why.TheVariants as whys
+use Rattle.dl_base.specs.declared.file.File.{File}
+use Rattle.dl_base.specs.declared.file.FileCmd.{FileCmd}
+use Rattle.dl_base.specs.declared.file.FileRow.{FileRow}
+use Rattle.dl_base.specs.declared.file.FileWhat.{FileWhat}
+use Rattle.dl_base.specs.declared.file.FileWhat.TheVariants as whats
+use Rattle.dl_base.specs.declared.sql_fault.BadLink.TheVariants as links
+use Rattle.dl_base.specs.declared.sql_fault.SqlFault.TheVariants as faults
+use Rattle.dl_base.specs.declared.step.Phase.TheVariants as phases
+use Rattle.dl_base.specs.declared.step.Step.TheVariants as kinds
+use Rattle.dl_base.specs.declared.value.LinkNo.{LinkNo}
+use Rattle.dl_base.specs.declared.value.Row.{Row}
+use Rattle.dl_base.specs.declared.value.Value.{Value}
+use Rattle.dl_base.specs.declared.value.Value.TheVariants as values
+use Rattle.meaning_files.specs.Commands.{file_command}
+use Rattle.meaning_files.specs.Files.{Files}
+use Rattle.meaning_script.specs.Lines.{is_quiet, is_user}
+use Rattle.meaning_script.specs.Printed.{cell_text, row_text, line_text, history_text}
+use Rattle.meaning_script.specs.Refusals.{bad_link_number, session_name, refusal_words}
+use Rattle.meaning_script.specs.Steps.{steps, text}
+use Rattle.meaning_script.specs.declared.turn.Turn.{Turn}
+use Rattle.meaning_script.specs.declared.turn.Turn.TheVariants as turns
+
+-- quiet lines
+
+empty_line : is_quiet [] ≡ true
+unfolding is_quiet
+empty_line = refl
+
+blanks_and_a_tab : is_quiet (32 ∷ 9 ∷ 32 ∷ []) ≡ true
+unfolding is_quiet
+blanks_and_a_tab = refl
+
+comment : is_quiet (codes "-- @ann list") ≡ true
+unfolding is_quiet
+comment = refl
+
+two_dashes : is_quiet (codes "--") ≡ true
+unfolding is_quiet
+two_dashes = refl
+
+one_dash : is_quiet (codes "- ") ≡ false
+unfolding is_quiet
+one_dash = refl
+
+-- a line that begins with a blank is a bad line, and no comment
+blank_before_the_dashes : is_quiet (codes " -- x") ≡ false
+unfolding is_quiet
+blank_before_the_dashes = refl
+
+command : is_quiet (codes "@ann list") ≡ false
+unfolding is_quiet
+command = refl
+
+-- a comment longer than a line may be
+long_comment : is_quiet (codes "--" ++ replicate 65536 120) ≡ true
+unfolding is_quiet
+long_comment = refl
+
+-- users
+
+user : is_user (codes "ann_2") ≡ true
+unfolding is_user name_test
+user = refl
+
+user_of_16_bytes : is_user (replicate 16 97) ≡ true
+unfolding is_user name_test
+user_of_16_bytes = refl
+
+user_of_17_bytes : is_user (replicate 17 97) ≡ false
+unfolding is_user name_test
+user_of_17_bytes = refl
+
+file_manager_is_no_user : is_user (codes "dlfm") ≡ false
+unfolding is_user name_test
+file_manager_is_no_user = refl
+
+case_counts : is_user (codes "DLFM") ≡ true
+unfolding is_user name_test
+case_counts = refl
+
+digit_first : is_user (codes "2ann") ≡ false
+unfolding is_user name_test
+digit_first = refl
+
+no_user : is_user [] ≡ false
+unfolding is_user name_test
+no_user = refl
+
+-- values
+
+null_cell : cell_text values.Null ≡ codes "NULL"
+null_cell = refl
+
+number_cell : cell_text (values.Int (pos 9223372036854775807)) ≡ codes "9223372036854775807"
+unfolding digits
+number_cell = refl
+
+number_below_zero : cell_text (values.Int (negsuc 41)) ≡ codes "-42"
+unfolding digits
+number_below_zero = refl
+
+least_number : cell_text (values.Int (negsuc 9223372036854775807)) ≡ codes "-9223372036854775808"
+unfolding digits
+least_number = refl
+
+text_with_a_quote : cell_text (values.Text (codes "it's")) ≡ codes "'it''s'"
+text_with_a_quote = refl
+
+empty_text : cell_text (values.Text []) ≡ codes "''"
+empty_text = refl
+
+abbrev datalink : Value
+datalink = values.Link (record { location = codes "http://fs1/a"; path = codes "/a"; comment = codes "note"; link = None })
+
+datalink_cell : cell_text datalink ≡ codes "<http://fs1/a>"
+datalink_cell = refl
+
+row_of_four : row_text (values.Int (pos 1) ∷ values.Text (codes "x") ∷ values.Null ∷ datalink ∷ []) ≡ codes "1 | 'x' | NULL | <http://fs1/a>"
+unfolding digits
+row_of_four = refl
+
+-- answers
+
+abbrev first_transaction : ℕ
+first_transaction = 2 ^ 32 + 2
+
+abbrev first_link : LinkNo
+first_link = record { tx = first_transaction; k = 1 }
+
+-- a line that is told, and the newline behind it
+abbrev line : List ℕ → List ℕ
+line text = text ++ 10 ∷ []
+
+done : line_text [] 1 answers.Done ≡ line (codes "1: ok")
+unfolding line_text digits
+done = refl
+
+begun : line_text [] 3 (answers.Begun first_transaction) ≡ line (codes "3: ok 1-2")
+unfolding line_text digits
+begun = refl
+
+changed : line_text [] 12 (answers.Changed 2) ≡ line (codes "12: ok 2")
+unfolding line_text digits
+changed = refl
+
+committed : line_text [] 9 (answers.Committed 2) ≡ line (codes "9: ok commit 2")
+unfolding line_text digits
+committed = refl
+
+abbrev row : List Value → Row
+row values = record { values = values }
+
+rows : line_text [] 4 (answers.Rows (record { rows = row (values.Int (pos 1) ∷ values.Null ∷ []) ∷ row (values.Int (pos 2) ∷ datalink ∷ []) ∷ [] }))
+    ≡ line (codes "4: rows 2") ++ line (codes "4| 1 | NULL") ++ line (codes "4| 2 | <http://fs1/a>")
+unfolding line_text digits
+rows = refl
+
+no_rows : line_text [] 4 (answers.Rows (record { rows = [] })) ≡ line (codes "4: rows 0")
+unfolding line_text digits
+no_rows = refl
+
+bytes : line_text [] 10 (answers.Bytes (codes "one")) ≡ line (codes "10: bytes 3") ++ line (codes "10| one")
+unfolding line_text digits
+bytes = refl
+
+no_bytes : line_text [] 5 (answers.Bytes []) ≡ line (codes "5: bytes 0") ++ line (codes "5| ")
+unfolding line_text digits
+no_bytes = refl
+
+abbrev file_row : List ℕ → List ℕ → Bool → FileRow
+file_row path owner writable = record { path = path; file = record { owner = record { name = owner; writable = writable }; bytes = codes "one"; before = None } }
+
+list_of_files : line_text [] 6 (answers.Files (file_row (codes "/a") (codes "dlfm") false ∷ file_row (codes "/b") (codes "ann") true ∷ []))
+    ≡ line (codes "6: ok files 2") ++ line (codes "6| /a dlfm off 3") ++ line (codes "6| /b ann on 3")
+unfolding line_text digits
+list_of_files = refl
+
+archived : line_text [] 9 (answers.Archived 1) ≡ line (codes "9: ok archived 1")
+unfolding line_text digits
+archived = refl
+
+backed_up : line_text [] 4 (answers.BackedUp 1) ≡ line (codes "4: ok backup 1")
+unfolding line_text digits
+backed_up = refl
+
+restored : line_text [] 7 (answers.Restored 4 (record { table = codes "m"; row = 1; column = codes "f"; path = codes "/a" } ∷ [])) ≡ line (codes "7: ok commit 4") ++ line (codes "7| lost m 1 f /a")
+unfolding line_text digits
+restored = refl
+
+resolved : line_text [] 6 (answers.Resolved 0 1) ≡ line (codes "6: ok committed 0 dropped 1")
+unfolding line_text digits
+resolved = refl
+
+-- refusals
+
+refused_line : line_text [] 2 (answers.Refused (reasons.File (refusals.Exists (codes "/a")))) ≡ line (codes "2: refused exists /a")
+unfolding line_text digits
+refused_line = refl
+
+bad_line : refusal_words [] (reasons.BadLine 65537) ≡ codes "bad line 65537"
+unfolding digits
+bad_line = refl
+
+syntax_place : refusal_words [] (reasons.Syntax 17) ≡ codes "syntax 17"
+unfolding digits
+syntax_place = refl
+
+no_value : refusal_words [] (reasons.NoValue (codes "B")) ≡ codes "no value B"
+no_value = refl
+
+not_in_race : refusal_words [] reasons.NotInRace ≡ codes "not in race"
+not_in_race = refl
+
+limit_of_actors : refusal_words [] (reasons.Limit limits.Actors) ≡ codes "limit actors"
+limit_of_actors = refl
+
+no_table : refusal_words [] (reasons.Sql (faults.NoTable (codes "t"))) ≡ codes "no table t"
+no_table = refl
+
+duplicate_key : refusal_words [] (reasons.Sql (faults.DupKey 2)) ≡ codes "duplicate key 2"
+unfolding digits
+duplicate_key = refl
+
+zero_divide : refusal_words [] (reasons.Sql faults.ZeroDivide) ≡ codes "divide by zero"
+zero_divide = refl
+
+bad_link_7 : refusal_words [] (reasons.Sql (faults.BadLink links.Comment)) ≡ codes "bad link 7"
+unfolding digits
+bad_link_7 = refl
+
+bad_link_numbers : (bad_link_number links.NotUrl ∷ bad_link_number links.Scheme ∷ bad_link_number links.Host ∷ bad_link_number links.Extra ∷ bad_link_number links.Path ∷ bad_link_number links.LinkType ∷ bad_link_number links.Comment ∷ [])
+    ≡ 1 ∷ 2 ∷ 3 ∷ 4 ∷ 5 ∷ 6 ∷ 7 ∷ []
+bad_link_numbers = refl
+
+claim_without_a_file : refusal_words [] (reasons.Claim (claims.NoFile (codes "/x"))) ≡ codes "no file /x"
+claim_without_a_file = refl
+
+already_linked : refusal_words [] (reasons.Claim (claims.AlreadyLinked (codes "/a") first_link)) ≡ codes "already linked /a 1-2-1"
+unfolding digits
+already_linked = refl
+
+busy : refusal_words [] (reasons.Claim (claims.Busy (codes "/a") first_transaction)) ≡ codes "busy /a 1-2"
+unfolding digits
+busy = refl
+
+conflict : refusal_words [] (reasons.Conflict (codes "t") 1 3) ≡ codes "conflict t 1 3"
+unfolding digits
+conflict = refl
+
+doomed : refusal_words [] (reasons.Doomed 1 2) ≡ codes "doomed 1 2"
+unfolding digits
+doomed = refl
+
+linked : refusal_words [] (reasons.File (refusals.Forbidden (codes "/a") first_link whys.Delete)) ≡ codes "linked /a 1-2-1 delete"
+unfolding digits
+linked = refl
+
+wrong_token : refusal_words [] (reasons.File (refusals.Forbidden (codes "/a") (record { tx = 2 ^ 32 + 5; k = 1 }) whys.WrongToken)) ≡ codes "linked /a 1-5-1 wrong token"
+unfolding digits
+wrong_token = refl
+
+expired : refusal_words [] (reasons.File (refusals.Forbidden (codes "/a") first_link (whys.Expired 160))) ≡ codes "linked /a 1-2-1 expired 160"
+unfolding digits
+expired = refl
+
+not_owner : refusal_words [] (reasons.File (refusals.NotOwner (codes "/a") (codes "ann"))) ≡ codes "not owner /a ann"
+not_owner = refl
+
+read_only : refusal_words [] (reasons.File (refusals.ReadOnly (codes "/a"))) ≡ codes "read only /a"
+read_only = refl
+
+limit_of_files : refusal_words [] (reasons.File (refusals.Limit limits.Files)) ≡ codes "limit files"
+limit_of_files = refl
+
+in_transaction : refusal_words [] (reasons.InTransaction (2 * 2 ^ 32 + 7)) ≡ codes "in transaction 2-7"
+unfolding digits
+in_transaction = refl
+
+wrong_phase : refusal_words [] (reasons.WrongPhase phases.Prepared) ≡ codes "phase prepared"
+wrong_phase = refl
+
+not_pending : refusal_words [] (reasons.NotPending first_link) ≡ codes "not pending 1-2-1"
+unfolding digits
+not_pending = refl
+
+unfinished : refusal_words [] (reasons.Unfinished (2 ^ 32 + 3)) ≡ codes "unfinished 1-3"
+unfolding digits
+unfinished = refl
+
+no_target : refusal_words [] (reasons.Restore (restores.NoTarget 9)) ≡ codes "no target 9"
+unfolding digits
+no_target = refl
+
+in_the_way : refusal_words [] (reasons.Restore (restores.InTheWay (codes "/a"))) ≡ codes "in the way /a"
+in_the_way = refl
+
+-- sessions go by their numbers, from 1
+
+abbrev two_names : List (List ℕ)
+two_names = codes "A" ∷ codes "B" ∷ []
+
+busy_session : refusal_words two_names (reasons.SessionBusy 1) ≡ codes "session busy A"
+busy_session = refl
+
+second_session : session_name two_names 2 ≡ codes "B"
+second_session = refl
+
+no_session : session_name two_names 3 ≡ []
+no_session = refl
+
+-- the history of a race
+
+first_of_a_history : history_text 1 (codes "A") 1 (kinds.Begin 1) ≡ line (codes "# 1 A 1 begin")
+unfolding history_text digits
+first_of_a_history = refl
+
+-- a quiet line, `@ann create /a one`, a refused line and `@ann read /a`: two steps
+
+abbrev by : List ℕ → FileWhat → FileCmd
+by user what = record { user = user; what = what }
+
+abbrev create : FileCmd
+create = by (codes "ann") (whats.Create (codes "/a") (codes "one"))
+
+abbrev read : FileCmd
+read = by (codes "ann") (whats.Read (codes "/a") None)
+
+abbrev rest : List Turn
+rest = turns.Answered (answers.Refused (reasons.BadLine 6)) ∷ turns.Asks read ∷ []
+
+abbrev lines : List Turn
+lines = turns.Quiet ∷ turns.Asks create ∷ rest
+
+two_steps : steps lines ≡ create ∷ read ∷ []
+two_steps = refl
+
+abbrev no_files : Files
+no_files = map.empty
+
+abbrev a_file : File
+a_file = record { owner = record { name = codes "ann"; writable = true }; bytes = codes "one"; before = None }
+
+abbrev one_file : Files
+one_file = map.insert no_files (codes "/a") a_file
+
+none : map.get no_files (codes "/a") ≡ None
+none = map.get-empty (slice_cmp nat_cmp) (codes "/a")
+
+count : map.len no_files ≡ 0
+count = map.len-empty (slice_cmp nat_cmp) File
+
+there : map.get one_file (codes "/a") ≡ Some a_file
+there = map.get-insert nat_list_cmp_total map.empty (codes "/a") a_file (codes "/a")
+
+created : file_command no_files create ≡ (answers.Done, one_file)
+created = rw (none, count) refl
+
+-- a step, and what is told of the lines behind it
+step_told : (number k : ℕ) (files : Files) (cmd : FileCmd) (more : List Turn) {first : Answer × Files} {later : List ℕ}
+    → file_command files cmd ≡ first → text (suc number) k first.1 more ≡ later → text number (suc k) files (turns.Asks cmd ∷ more) ≡ line_text [] number first.0 ++ later
+step_told number k files cmd more {first} {later} is told =
+    ap (λ (d : Answer × Files). line_text [] number d.0 ++ text (suc number) k d.1 more) is ∙ ap (λ (t : List ℕ). line_text [] number first.0 ++ t) told
+
+nothing_before_the_first_step : text 1 0 no_files lines ≡ []
+nothing_before_the_first_step = refl
+
+-- the refused line is told with the step before it
+told_after_one_step : text 1 1 no_files lines ≡ line (codes "2: ok") ++ line (codes "3: refused bad line 6")
+unfolding line_text digits
+told_after_one_step = rw (none, count) refl
+
+rest_told : text 3 1 one_file rest ≡ line (codes "3: refused bad line 6") ++ line (codes "4: bytes 3") ++ line (codes "4| one")
+unfolding line_text digits
+rest_told = rw there refl
+
+told_after_both_steps : text 1 2 no_files lines ≡ line (codes "2: ok") ++ line (codes "3: refused bad line 6") ++ line (codes "4: bytes 3") ++ line (codes "4| one")
+unfolding line_text digits
+told_after_both_steps = step_told 2 1 no_files create rest created rest_told
+
+-- with no step to come all is told, however few are done
+refused_before_any_step : text 1 0 no_files (turns.Answered (answers.Refused (reasons.BadLine 1)) ∷ turns.Quiet ∷ []) ≡ line (codes "1: refused bad line 1")
+unfolding line_text digits
+refused_before_any_step = refl
+
+-- create, read, create again, delete by another user, delete, read
+
+abbrev create_again : FileCmd
+create_again = by (codes "ann") (whats.Create (codes "/a") (codes "x"))
+
+abbrev delete : List ℕ → FileCmd
+delete user = by user (whats.Delete (codes "/a"))
+
+abbrev no_file_left : Files
+no_file_left = map.remove one_file (codes "/a")
+
+gone : map.get no_file_left (codes "/a") ≡ None
+gone = map.get-remove nat_list_cmp_total one_file (codes "/a") (codes "/a")
+
+was_read : file_command one_file read ≡ (answers.Bytes (codes "one"), one_file)
+was_read = rw there refl
+
+exists : file_command one_file create_again ≡ (answers.Refused (reasons.File (refusals.Exists (codes "/a"))), one_file)
+exists = rw there refl
+
+of_ann : file_command one_file (delete (codes "bob")) ≡ (answers.Refused (reasons.File (refusals.NotOwner (codes "/a") (codes "ann"))), one_file)
+of_ann = rw there refl
+
+deleted : file_command one_file (delete (codes "ann")) ≡ (answers.Done, no_file_left)
+deleted = rw there refl
+
+no_file : file_command no_file_left read ≡ (answers.Refused (reasons.File (refusals.NoFile (codes "/a"))), no_file_left)
+no_file = rw gone refl
+
+abbrev from_line_6 : List Turn
+from_line_6 = turns.Asks read ∷ []
+
+abbrev from_line_5 : List Turn
+from_line_5 = turns.Asks (delete (codes "ann")) ∷ from_line_6
+
+abbrev from_line_4 : List Turn
+from_line_4 = turns.Asks (delete (codes "bob")) ∷ from_line_5
+
+abbrev from_line_3 : List Turn
+from_line_3 = turns.Asks create_again ∷ from_line_4
+
+abbrev from_line_2 : List Turn
+from_line_2 = turns.Asks read ∷ from_line_3
+
+whole_script : text 1 6 no_files (turns.Asks create ∷ from_line_2)
+    ≡ line (codes "1: ok") ++ line (codes "2: bytes 3") ++ line (codes "2| one") ++ line (codes "3: refused exists /a") ++ line (codes "4: refused not owner /a ann") ++ line (codes "5: ok") ++ line (codes "6: refused no file /a")
+unfolding line_text digits
+whole_script =
+    step_told 1 5 no_files create from_line_2 created (step_told 2 4 one_file read from_line_3 was_read (step_told 3 3 one_file create_again from_line_4 exists
+    (step_told 4 2 one_file (delete (codes "bob")) from_line_5 of_ann (step_told 5 1 one_file (delete (codes "ann")) from_line_6 deleted (step_told 6 0 no_file_left read [] no_file refl)))))
