@@ -1,12 +1,10 @@
 -- What the words behind a `!` ask, or the place of the first word that fits no order behind those before it.
-use Rattle.std.specs.Prelude.{ℕ, ◌+◌, Bool, ◌&&◌, nat_le, if◌then◌else◌, List, [], ◌∷◌, length, codes, Option, Some, None, Result, Ok, Err}
-use Rattle.std.specs.Char.{is_ascii_digit}
-use Rattle.std.specs.List.{list_all}
-use Rattle.std.specs.Str.Parse.{digits_value}
+use Rattle.std.specs.Prelude.{ℕ, ◌+◌, if◌then◌else◌, List, [], ◌∷◌, length, codes, Option, Some, None, Result, Ok, Err}
 use Rattle.dl_base.specs.declared.step.Target.{Target}
 use Rattle.dl_base.specs.declared.step.Target.TheVariants as targets
 use Rattle.fs_command.specs.Words.{Word, words}
 use Rattle.fs_command.specs.Commands.{Part, word, first, is}
+use Rattle.run_numbers.specs.Numbers.{number_in}
 use Rattle.run_script.specs.declared.kind.Order.{Order}
 use Rattle.run_script.specs.declared.kind.Order.TheVariants as orders
 use Rattle.run_script.specs.declared.order.Kept.{Kept}
@@ -31,14 +29,8 @@ abbrev pub ◌>>=◌ : {A : Type 0} → Part A → (A → Ending) → Ending
 (part >>= next) end ws = followed (part end ws) next end
 
 -- N: 1 to 10 decimal digits, that are at most a bound
-unfoldable pub is_number : List ℕ → Bool
-is_number bytes = nat_le 1 (length bytes) && nat_le (length bytes) 10 && list_all is_ascii_digit bytes
-
-unfoldable pub number_in : ℕ → List ℕ → Option ℕ
-number_in most bytes = if is_number bytes && nat_le (digits_value 10 bytes) most then Some (digits_value 10 bytes) else None
-
 abbrev pub number : ℕ → Part ℕ
-number most = word (λ w. number_in most w.bytes)
+number most = word (λ w. number_in 10 0 most w.bytes)
 
 -- tick N
 unfoldable pub tick : Ending

@@ -1,16 +1,15 @@
 // The order that the text behind a `!` is.
 ghost use Rattle.std.specs.Prelude.{◌≡◌, ◌≤◌, ◌<◌, ◌+◌, ◌^◌, ◌∷◌, length, MatchOption, MatchResult, IfOk, Ok, Err};
-ghost use Rattle.std.specs.Char.{is_ascii_digit};
-ghost use Rattle.std.specs.List.{list_all, slice_range};
+ghost use Rattle.std.specs.List.{slice_range};
 ghost use Rattle.std.specs.Result.{IfErr};
-ghost use Rattle.std.specs.Str.Parse.{AllDigits, digits_value};
 ghost use Rattle.fs_command.specs.Words.{words_from, word_at};
 ghost use Rattle.fs_command.specs.Commands.{Gives, IfBad, IsPlaceIn, word};
-ghost use Rattle.run_script.specs.Orders.{order, nothing, number, number_in, is_number, tick, restore, crash, kept_in, crash_in, target};
+ghost use Rattle.run_script.specs.Orders.{order, nothing, number, tick, restore, crash, kept_in, crash_in, target};
 
 use crate::kind::Order;
 use dl_base::Target;
 use fs_command::{CommandFault, Span, next_word};
+use run_numbers::number_in;
 
 /// What `restore` names.
 #[derive(Clone, Copy, Debug, PartialEq, Eq)]
@@ -142,7 +141,7 @@ fn crash_in(word: &[u8]) -> Option<Order>
     None
 }
 
-// The next word, which is a number up to a bound, and the index behind it.
+// The next word, which is a number of at most 10 digits up to a bound, and the index behind it.
 fn number_word(most: u64, text: &[u8], at: usize) -> Result<(u64, usize), CommandFault>
     requires { at ≤ length text.now }
     ensures place { IfErr result (λ e. IsPlaceIn text.now e) }
@@ -152,45 +151,8 @@ fn number_word(most: u64, text: &[u8], at: usize) -> Result<(u64, usize), Comman
         (λ e. IfBad e (λ k. number most (length text.now + 1) (words_from at text.now) ≡ Err k)) }
 {
     let word = next_word(text, at)?;
-    match number_in(most, &text[word.begin..word.end]) {
+    match number_in(10, 0, most, &text[word.begin..word.end]) {
         Some(n) => Ok((n, word.end)),
         None => Err(misplaced(word.begin)),
     }
-}
-
-#[tactic(auto, using(crate::proofs::Digits::number_digits), unfolding(crate::specs::Orders::is_number, crate::specs::Orders::number_in))]
-fn number_in(most: u64, bytes: &[u8]) -> Option<u64>
-    ensures { result ≡ number_in most bytes.now }
-{
-    if !is_number(bytes) {
-        return None;
-    }
-    match value_of(bytes) {
-        Some(n) if n <= most => Some(n),
-        _ => None,
-    }
-}
-
-#[tactic(auto, unfolding(crate::specs::Orders::is_number))]
-fn is_number(bytes: &[u8]) -> bool
-    ensures { result ≡ is_number bytes.now }
-{
-    !bytes.is_empty() && bytes.len() <= 10 && are_digits(bytes)
-}
-
-fn are_digits(bytes: &[u8]) -> bool
-    ensures { result ≡ list_all is_ascii_digit bytes.now }
-{
-    bytes.iter().all(|b| b.is_ascii_digit())
-}
-
-// The number that decimal digits write, where it is below 2 to the 64th.
-#[tactic(auto, using(crate::proofs::Digits::digits_are_text))]
-fn value_of(digits: &[u8]) -> Option<u64>
-    requires some { 0 < length digits.now }
-    requires digits { AllDigits 10 digits.now }
-    ensures { MatchOption result (2 ^ 64 ≤ digits_value 10 digits.now) (λ n. n ≡ digits_value 10 digits.now) }
-{
-    let text = str::from_utf8(digits).ok()?;
-    text.parse::<u64>().ok()
 }

@@ -7,7 +7,8 @@ use Rattle.std.proofs.lemmas.Bool.{and_parts, eqb-true, false≢true}
 use Rattle.std.proofs.lemmas.Slice.Eq.{bytes_eq-Decides}
 use Rattle.hex.specs.Hex.{decode_pairs}
 use Rattle.clap.specs.Lexer.{long_of, short_of}
-use Rattle.run_words.specs.Words.{Said, is_server_byte, is_server, key_in, is_number, number_in, is_option, is_form, behind_hyphens, name_of, text_of, with, commands, by_text, by_name, said_in}
+use Rattle.run_numbers.specs.Numbers.{is_number, number_in}
+use Rattle.run_words.specs.Words.{Said, is_server_byte, is_server, key_in, is_option, is_form, behind_hyphens, name_of, text_of, with, commands, by_text, by_name, said_in}
 use Rattle.run_words.proofs.Loose.{dashes, loose, ready, waits, ended, and_said, by_value, ready_by, waits_by}
 use Rattle.run_words.proofs.Rules.{the_command, either_way}
 use Rattle.run_words.proofs.Turns.{IsPlain}
@@ -33,13 +34,13 @@ server_undashed : (w : List ℕ) → is_server w ≡ true → is_dashed w ≡ fa
 unfolding is_server
 server_undashed w is = all_undashed is_server_byte refl w (and_parts _ (list_all is_server_byte w) is).1
 
-number_undashed : (w : List ℕ) → is_number w ≡ true → is_dashed w ≡ false
+number_undashed : (w : List ℕ) → is_number 20 w ≡ true → is_dashed w ≡ false
 unfolding is_number
 number_undashed w is = all_undashed is_ascii_digit refl w (and_parts _ (list_all is_ascii_digit w) is).1
 
-is_number_of : (least most : ℕ) (w : List ℕ) → is_some (number_in least most w) ≡ true → is_number w ≡ true
+is_number_of : (least most : ℕ) (w : List ℕ) → is_some (number_in 20 least most w) ≡ true → is_number 20 w ≡ true
 unfolding number_in
-is_number_of least most w is = elim (either_way (is_number w)) [ inl e ↦ e | inr e ↦ absurd (false≢true (rw e at is)) ]
+is_number_of least most w is = elim (either_way (is_number 20 w)) [ inl e ↦ e | inr e ↦ absurd (false≢true (rw e at is)) ]
 
 no_key_dashed : (rest : List ℕ) → is_some (key_in (45 ∷ rest)) ≡ true → ⊥
 unfolding key_in decode_pairs

@@ -1,5 +1,4 @@
 mod Agree
-mod Digits
 mod Forms
 mod Loose
 mod Rows

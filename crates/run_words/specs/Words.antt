@@ -4,10 +4,10 @@ use Rattle.std.specs.Char.{is_ascii_digit}
 use Rattle.std.specs.List.{list_all, list_any, before_first, after_first}
 use Rattle.std.specs.Result.{result_ok}
 use Rattle.std.specs.Str.{is_utf8}
-use Rattle.std.specs.Str.Parse.{digits_value}
 use Rattle.hex.specs.Hex.{decode_of}
 use Rattle.dl_base.specs.Name.{name_test}
 use Rattle.dl_base.specs.declared.step.Settings.{Settings}
+use Rattle.run_numbers.specs.Numbers.{number_in}
 use Rattle.run_words.specs.declared.fault.WordsFault.{WordsFault}
 use Rattle.run_words.specs.declared.fault.WordsFault.TheVariants.{Usage, Memory}
 
@@ -35,15 +35,6 @@ server_in text = if is_server text then Some text else None
 unfoldable pub key_in : List ℕ → Option (List ℕ)
 key_in text = if length text == 64 then result_ok (decode_of text) else None
 
--- a number: 1 to 20 decimal digits
-unfoldable pub is_number : List ℕ → Bool
-is_number text = nat_le 1 (length text) && nat_le (length text) 20 && list_all is_ascii_digit text
-
--- a number between two bounds
-unfoldable pub number_in : ℕ → ℕ → List ℕ → Option ℕ
-number_in least most text =
-    if is_number text && nat_le least (digits_value 10 text) && nat_le (digits_value 10 text) most then Some (digits_value 10 text) else None
-
 -- ---- the words, each with its text
 
 -- The five options by name, and `command`, under which the command itself stands among them. What is said is a name with its
@@ -62,9 +53,9 @@ abbrev pub is_form : List ℕ → List ℕ → Bool
 is_form name text =
     if bytes_eq (codes "server") name then is_server text
     else (if bytes_eq (codes "key") name then is_some (key_in text)
-    else (if bytes_eq (codes "now") name then is_some (number_in 0 9007199254740992 text)
-    else (if bytes_eq (codes "life") name then is_some (number_in 1 1000000000 text)
-    else (if bytes_eq (codes "area") name then is_some (number_in 1 1099511627776 text)
+    else (if bytes_eq (codes "now") name then is_some (number_in 20 0 9007199254740992 text)
+    else (if bytes_eq (codes "life") name then is_some (number_in 20 1 1000000000 text)
+    else (if bytes_eq (codes "area") name then is_some (number_in 20 1 1099511627776 text)
     else (if bytes_eq (codes "command") name then bytes_eq text (codes "run")
     else true)))))
 
@@ -144,9 +135,9 @@ abbrev pub settings_of : (List ℕ → Option (List ℕ)) → Option Settings
 settings_of text = if bytes_eq (unwrap_or (text (codes "command")) []) (codes "run") then (do
   server ← server_in (unwrap_or (text (codes "server")) (codes "fs1"))
   key ← key_in (unwrap_or (text (codes "key")) no_key)
-  now ← number_in 0 9007199254740992 (unwrap_or (text (codes "now")) (codes "0"))
-  life ← number_in 1 1000000000 (unwrap_or (text (codes "life")) (codes "60"))
-  limit ← number_in 1 1099511627776 (unwrap_or (text (codes "area")) (codes "1099511627776"))
+  now ← number_in 20 0 9007199254740992 (unwrap_or (text (codes "now")) (codes "0"))
+  life ← number_in 20 1 1000000000 (unwrap_or (text (codes "life")) (codes "60"))
+  limit ← number_in 20 1 1099511627776 (unwrap_or (text (codes "area")) (codes "1099511627776"))
   Some (record { server = server; key = key; now = now; life = life; limit = limit })) else None
 
 abbrev pub settled : List Said → Option Settings
