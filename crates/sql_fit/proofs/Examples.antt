@@ -82,15 +82,6 @@ free_from_two = refl
 not_free_from_one : is_free (table (linked ∷ []) 2 (row 1 (link 97 (numbered 5 1)) ∷ [])) 5 1 ≡ false
 not_free_from_one = refl
 
--- a datalink to another file draws the next number, one to the same file keeps its own
-drawn : stored 9 4 linked (link 97 (numbered 5 1)) (link 98 None) ≡ Ok (link 98 (numbered 9 4), 5)
-unfolding stored
-drawn = refl
-
-kept : stored 9 4 linked (link 97 (numbered 5 1)) (link 97 None) ≡ Ok (link 97 (numbered 5 1), 4)
-unfolding stored
-kept = refl
-
 -- statements that are not refused: the premises of the laws can be met
 made : change [] (statements.CreateTable (116 ∷ []) (record { name = 100 ∷ []; kind = defs.Db2; not_null = 0; key = 0 } ∷ [])) (at_moment 9) 1 ≡ Ok (record { tables = table (linked ∷ []) 1 []; next = 1; count = 0 })
 unfolding create
