@@ -7,12 +7,14 @@ ratios are those of 2,000 to 1,000 and of 60,000 to 30,000 bytes. Texts of 65,53
 read too, which are refused at a bound, and so are texts of that length of each kind; none may exhaust the stack.
 
 A small program that only calls the two stands below; `measured.py` has it proved, built and run. The program goes many times over
-all texts, and the best time of each counts, all in this one invocation. A print is timed with the one parse before it, and so are
-three times as many prints: half of what these take more is the time of the prints alone. The status is 1 where twice the length
+all texts, all in this one invocation. Of reading the best time counts. A print is timed with the one parse before it, and right
+behind it three times as many prints are: half of what these take more is the time of the prints alone, of which the median counts.
+The status is 1 where twice the length
 takes more than 2.2 times the time to read or to print, or where a text is not answered as it has to be. A print that takes less
 than a fiftieth of the time of reading the same text, as that of parentheses, which are not printed, is too short to be told apart
 from the parse. On a busy machine the ratios come out too high, since a text of 60,000 bytes has a tree of some megabytes.
 """
+import statistics
 import sys
 
 from measured import filled, told
@@ -185,31 +187,32 @@ REFUSED = {
 }
 
 
-def best(lines, count):
+def measures(lines, count):
     """Of each text its lexemes, its place, whether it is printed so again, and nanoseconds of one call of parse and of print."""
-    found = {}
+    rounds = [[] for _ in range(count)]
     for line in lines:
-        number, lexemes, place = map(int, line[:3])
-        kept = found.get(number)
-        times = [int(time) for time in line[5:8]]
-        if kept:
-            times = [min(pair) for pair in zip(times, kept[4])]
-        found[number] = lexemes, place, line[3] == "true", int(line[4]), times
-    if len(lines) != count * ROUNDS or len(found) != count:
+        rounds[int(line[0])].append(line)
+    if any(len(found) != ROUNDS for found in rounds):
         sys.exit("the program told %d lines" % len(lines))
-    return [each(*found[number]) for number in range(count)]
+    return [measure(found) for found in rounds]
 
 
-def each(lexemes, place, again, calls, times):
-    reading, printing, more = times
-    return lexemes, place, again, reading / calls, (more - printing) / (2 * calls)
+def measure(rounds):
+    reading, printing = [], []
+    for line in rounds:
+        calls = int(line[4])
+        parses, once, thrice = map(int, line[5:8])
+        reading.append(parses / calls)
+        printing.append((thrice - once) / (2 * calls))
+    lexemes, place = map(int, rounds[0][1:3])
+    return lexemes, place, all(line[3] == "true" for line in rounds), min(reading), statistics.median(printing)
 
 
 def main():
     keys = [(kind, length) for kind in KINDS for length in LENGTHS]
     texts = [KINDS[kind](length) for kind, length in keys] + [text for text, _ in REFUSED.values()]
     source = filled(PROGRAM, {"BYTES": BYTES, "ROUNDS": ROUNDS})
-    answers = best(told(USED, source, "".join(text + "\n" for text in texts)), len(texts))
+    answers = measures(told(USED, source, "".join(text + "\n" for text in texts)), len(texts))
     status = 0
     for (kind, (_, place)), answer in zip(REFUSED.items(), answers[len(keys):]):
         print("%s, 65,536 bytes: refused at %d" % (kind, answer[1]))
