@@ -9,10 +9,10 @@ read too, which are refused at a bound, and so are texts of that length of each 
 A small program that only calls the two stands below; `measured.py` has it proved, built and run. The program goes many times over
 all texts, all in this one invocation. Of reading the best time counts. A print is timed with the one parse before it, and right
 behind it three times as many prints are: half of what these take more is the time of the prints alone, of which the median counts.
-The status is 1 where twice the length
-takes more than 2.2 times the time to read or to print, or where a text is not answered as it has to be. A print that takes less
-than a fiftieth of the time of reading the same text, as that of parentheses, which are not printed, is too short to be told apart
-from the parse. On a busy machine the ratios come out too high, since a text of 60,000 bytes has a tree of some megabytes.
+The status is 1 where twice the length takes more than 2.2 times the time to read or to print, or where a text is not answered as
+it has to be. A print that takes less than a fiftieth of the time of reading the same text, as that of parentheses, which are not
+printed, is too short to be told apart from the parse. On a busy machine the ratios come out too high, since a text of 60,000 bytes
+has a tree of some megabytes.
 """
 import statistics
 import sys
