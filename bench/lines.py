@@ -14,7 +14,7 @@ import time
 
 ROOT = pathlib.Path(__file__).resolve().parent.parent
 COMMAND = ROOT / "bin" / "datalinks"
-PROGRAM = ROOT / "crates" / "datalinks" / "out" / "datalinks"
+PROGRAM = ROOT / "crates" / "datalinks_main" / "out" / "datalinks_main"
 CONTENT = 100
 
 

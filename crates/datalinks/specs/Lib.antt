@@ -1,4 +1,3 @@
-pub mod Blind
 pub mod Codes
 pub mod Complete
 pub mod Lines

@@ -17,7 +17,7 @@ use Rattle.meaning_machine.specs.Turns.{AreTurns, no_sessions}
 use Rattle.dl_base.specs.declared.step.Settings.{Settings}
 use Rattle.meaning_script.specs.Steps.{steps, files_after, text}
 use Rattle.meaning_script.specs.declared.turn.Turn.{Turn}
-use Rattle.run_words.specs.Words.{settings}
+use Rattle.run_args.specs.Words.{settings}
 
 -- what the lines of a script lead to, in a run that was told these settings
 abbrev pub Runs : Settings → List ℕ → List Turn → Type 0

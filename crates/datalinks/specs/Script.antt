@@ -1,10 +1,11 @@
 -- A script that is read whole.
 use Rattle.std.specs.Prelude.{◌≡◌, ℕ, ◌+◌, ◌≤◌, List, [], ◌++◌, length, Option, Some}
+use Rattle.dl_base.specs.Limits.{most_script_bytes}
 use Rattle.dl_base.specs.Sources.{Took}
 
 -- how many bytes a script may have
 abbrev pub most_bytes : ℕ
-most_bytes = 67108864
+most_bytes = most_script_bytes
 
 -- the bytes are all that was left, and nothing is left
 pub record IsWhole (bytes : List ℕ) (old new : Option (List ℕ)) : Type 0 where

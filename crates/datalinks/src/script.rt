@@ -3,11 +3,12 @@ ghost use Rattle.std.specs.Prelude.{◌≡◌, ◌≢◌, ◌+◌, ◌≤◌, �
 ghost use Rattle.dl_base.specs.Sources.{RoseFrom};
 ghost use Rattle.datalinks.specs.Script.{IsWhole, IsTooLong, TookMore, most_bytes};
 
+use dl_base::limits::MOST_SCRIPT_BYTES;
 use dl_base::{Failed, Source};
 use std::alloc::{AllocError, Global};
 
 /// How many bytes a script may have.
-const MOST: usize = 67_108_864;
+const MOST: usize = MOST_SCRIPT_BYTES;
 
 /// How many bytes are asked for at a time.
 const CHUNK: usize = 8_192;

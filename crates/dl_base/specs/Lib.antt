@@ -1,6 +1,8 @@
 pub mod Areas
+pub mod Digits
 pub mod Faults
 pub mod Lending
+pub mod Limits
 pub mod Name
 pub mod Outside
 pub mod Path

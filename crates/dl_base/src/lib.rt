@@ -6,8 +6,10 @@ mod area;
 mod bench;
 mod column;
 mod copied;
+mod digits;
 mod fault;
 mod file;
+pub mod limits;
 mod list;
 mod memory;
 mod name;
@@ -18,8 +20,6 @@ mod source;
 mod sql_fault;
 mod statement;
 mod step;
-#[cfg(test)]
-mod tests;
 mod text;
 mod value;
 
@@ -28,6 +28,7 @@ pub use area::Area;
 pub use bench::Bench;
 pub use column::{Column, ColumnRule, Kind, OnUnlink, Options, ReadBy, WriteBy};
 pub use copied::Copied;
+pub use digits::number_in;
 pub use fault::{AppendFault, BeginFault, Full, StepFault};
 pub use file::{File, FileChange, FileCmd, FileRow, FileWhat, Owner, Token};
 pub use list::List;

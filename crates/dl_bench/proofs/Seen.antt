@@ -1,5 +1,5 @@
 -- What a call does to a bench in memory, as it is seen.
-use Rattle.std.proofs.Common.{◌≡◌, ℕ, ◌≤◌, List, [], ◌∷◌, ◌++◌, length, Some, refl, sym, ◌∙◌, ap, subst}
+use Rattle.std.proofs.Common.{◌≡◌, ℕ, ◌≤◌, List, [], ◌∷◌, ◌++◌, length, take, Some, refl, sym, ◌∙◌, ap, subst}
 use Rattle.dl_base.specs.declared.area.Area.{Area}
 use Rattle.dl_base.specs.Outside.{Touches, Says, Torn, replaced}
 use Rattle.dl_bench.specs.declared.event.Event.{Event}
@@ -8,7 +8,7 @@ use Rattle.dl_bench.specs.Replay.{State, start, state_after, outside_of}
 use Rattle.dl_bench.specs.Laws.{run-push}
 use Rattle.dl_bench.specs.Tallies.{faults}
 use Rattle.dl_bench.specs.Traces.{Trace, seen, content}
-use Rattle.dl_bench.proofs.Touch.{touches_same, touches_torn, touches_write, touches_sync, touches_sync_old, says_nothing, says_event, kept-write, kept-sync}
+use Rattle.dl_bench.proofs.Touch.{touches_same, touches_torn, touches_write, touches_sync, touches_sync_old, says_nothing, says_event, says_front, kept-write, kept-sync}
 
 -- was is the old trace, as its fields give it
 module _ (was old new : Trace) (is : was ≡ old) (le : faults was.tally ≤ faults new.tally) where
@@ -47,6 +47,9 @@ module _ (was old new : Trace) (is : was ≡ old) (le : faults was.tally ≤ fau
   says_all bytes more =
       subst (λ (o : Trace). Says bytes (seen o) (seen new)) is
       (subst (λ (es : List Event). Says bytes (seen was) (outside_of es (faults new.tally))) (sym more) (says_event was.events (Say bytes) _ _ bytes le refl))
+
+  pub says_half : (k : ℕ) (bytes : List ℕ) → new.events ≡ was.events ++ Say (take k bytes) ∷ [] → Says bytes (seen old) (seen new)
+  says_half k bytes more = says_front k bytes (seen old) (seen new) (says_all (take k bytes) more)
 
 -- what an event leaves in its area
 module _ (was old new : Trace) (is : was ≡ old) where

@@ -1,9 +1,11 @@
 -- What contracts see of a bench in memory.
-use Rattle.std.specs.Prelude.{◌≡◌, ℕ, List, [], ◌∷◌, ◌++◌, if◌then◌else◌, None}
+use Rattle.std.specs.Prelude.{◌≡◌, ◌⊎◌, ℕ, ◌/◌, List, [], ◌∷◌, ◌++◌, length, take, if◌then◌else◌, None}
 use Rattle.dl_base.specs.declared.area.Area.{Area}
 use Rattle.dl_base.specs.Outside.{Outside}
 use Rattle.dl_bench.specs.declared.call.Call.{Call}
+use Rattle.dl_bench.specs.declared.call.Call.TheVariants as calls
 use Rattle.dl_bench.specs.declared.event.Event.{Event}
+use Rattle.dl_bench.specs.declared.event.Event.TheVariants as events
 use Rattle.dl_bench.specs.declared.event.Pick.{Pick}
 use Rattle.dl_bench.specs.Replay.{state_after, picked, outside_of}
 use Rattle.dl_bench.specs.Tallies.{Tally, fresh, is_due, counted, hungry, faults}
@@ -35,6 +37,10 @@ asked t call = record t { tally = counted t.tally call }
 -- after a call that failed: it was listed or past the fuse, or it found no memory
 abbrev pub failed : Trace → Call → Trace
 failed t call = record t { tally = (if is_due t.tally call then counted t.tally call else hungry (counted t.tally call)) }
+
+-- After a call to tell that failed. One that was to fail has told half of the bytes, if there was memory for them.
+abbrev pub HasFailedSaying : List ℕ → Trace → Trace → Type 0
+HasFailedSaying bytes old new = (new ≡ failed old calls.Say) ⊎ (new ≡ added (asked old calls.Say) (events.Say (take (length bytes / 2) bytes)))
 
 -- a bench as a crash of the old one leaves it
 pub record IsCrashed (pick : Pick) (old new : Trace) : Type 0 where

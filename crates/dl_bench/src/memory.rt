@@ -4,7 +4,7 @@ ghost use Rattle.std.specs.Option.{ForSome};
 ghost use Rattle.dl_base.specs.Outside.{Touches, Says, Torn, overwritten, portion, extended, Rose};
 ghost use Rattle.dl_bench.specs.declared.event.Event.TheVariants.{Put, Write, Sync, Say};
 ghost use Rattle.dl_bench.specs.Tallies.{fresh, is_due, faults};
-ghost use Rattle.dl_bench.specs.Traces.{seen, content, told, added, asked, failed, IsCrashed};
+ghost use Rattle.dl_bench.specs.Traces.{seen, content, told, added, asked, failed, HasFailedSaying, IsCrashed};
 ghost use Rattle.dl_bench.specs.Laws.{lawful};
 
 use crate::plan::Plan;
@@ -168,15 +168,17 @@ impl Bench for MemoryBench {
         }
     }
 
+    /// A call that is to fail tells half of the bytes.
     fn say(&mut self, bytes: &[u8]) -> Result<(), Failed>
         ensures told { OnOk result ((seen self.new).told ≡ extended bytes.now (seen self.old).told) }
         ensures crash { Says bytes.now (seen self.old) (seen self.new) }
         ensures cause { OnErr result (Rose (seen self.old) (seen self.new)) }
         ensures due { IsTrue (is_due self.old.tally Call.Say) → IsErr result }
         ensures ok { OnOk result (self.new ≡ added (asked self.old Call.Say) (Say bytes.now)) }
-        ensures err { OnErr result (self.new ≡ failed self.old Call.Say) }
+        ensures err { OnErr result (HasFailedSaying bytes.now self.old self.new) }
     {
         if self.plan.fails(Call::Say) {
+            self.tape.say_half(bytes);
             return Err(Failed);
         }
         match self.tape.say(bytes) {

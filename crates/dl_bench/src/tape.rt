@@ -1,5 +1,5 @@
 // What happened, and what it left.
-ghost use Rattle.std.specs.Prelude.{◌≡◌, ◌≤◌, ◌++◌, [], ◌∷◌, length, IfOk, OnOk, OnErr};
+ghost use Rattle.std.specs.Prelude.{◌≡◌, ◌⊎◌, ◌≤◌, ◌/◌, ◌++◌, [], ◌∷◌, length, take, IfOk, OnOk, OnErr};
 ghost use Rattle.dl_bench.specs.declared.event.Event.TheVariants.{Put, Write, Sync, Say};
 ghost use Rattle.dl_bench.specs.Replay.{state_after, picked, puts};
 ghost use Rattle.dl_bench.specs.Tapes.{IsReplayed};
@@ -97,6 +97,13 @@ impl Tape {
                 Err(Memory)
             }
         }
+    }
+
+    /// Tells half of the bytes, or nothing where there is no memory.
+    pub fn say_half(&mut self, bytes: &[u8])
+        ensures { (self.new.events.items ≡ self.old.events.items) ⊎ (self.new.events.items ≡ self.old.events.items ++ Say (take (length bytes.now / 2) bytes.now) ∷ []) }
+    {
+        let _ = self.say(&bytes[..bytes.len() / 2]);
     }
 
     /// What is found after a crash.

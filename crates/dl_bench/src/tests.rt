@@ -62,7 +62,7 @@ fn a_listed_call_fails_and_changes_nothing(rt: HostRuntime) -> Result<(), Memory
         let mut bench = bench_of(rt.alloc(), Some((kind, 1)), None)?;
         assert!(rt; call(&rt, &mut bench, kind).is_err(), "{kind:?}");
         assert_eq!(rt; bench.area(Area::Rows), b"abcdef".as_slice());
-        assert_eq!(rt; bench.told(), b"".as_slice());
+        assert_eq!(rt; bench.told().len(), usize::from(kind == Call::Say));
         assert!(rt; call(&rt, &mut bench, kind).is_ok(), "{kind:?} again");
 
         let mut later = bench_of(rt.alloc(), Some((kind, 2)), None)?;
@@ -81,7 +81,7 @@ fn a_fuse_lets_so_many_calls_pass(rt: HostRuntime) -> Result<(), Memory> {
     assert!(rt; call(&rt, &mut bench, Call::Sync).is_err());
     assert!(rt; call(&rt, &mut bench, Call::Say).is_err());
     assert_eq!(rt; bench.area(Area::Rows), b"abXYef".as_slice());
-    assert_eq!(rt; bench.told(), b"".as_slice());
+    assert_eq!(rt; bench.told(), b"h".as_slice());
     Ok(())
 }
 

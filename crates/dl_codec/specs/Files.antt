@@ -29,24 +29,24 @@ unfoldable pub file_row : Layout FileRow
 file_row = along file_row_of fields_of_file_row (pair path (pair owner (pair (option owner) text)))
 
 -- a change of one path: 0 and the path, 1 and the file, or 2, the path, the owner and the saved owner
-abbrev pub kept : Layout (List ℕ × (Owner × Option Owner))
-kept = pair path (pair owner (option owner))
+abbrev pub owner_change : Layout (List ℕ × (Owner × Option Owner))
+owner_change = pair path (pair owner (option owner))
 
 abbrev pub file_change_spelling : FileChange → List ℕ
 file_change_spelling (changes.Removed at) = 0 ∷ path.spelling at
 file_change_spelling (changes.Put row) = 1 ∷ file_row.spelling row
-file_change_spelling (changes.Kept at new before) = 2 ∷ kept.spelling (at, (new, before))
+file_change_spelling (changes.Kept at new before) = 2 ∷ owner_change.spelling (at, (new, before))
 
 abbrev pub file_change_fits : FileChange → Type 0
 file_change_fits (changes.Removed at) = path.fits at
 file_change_fits (changes.Put row) = file_row.fits row
-file_change_fits (changes.Kept at new before) = kept.fits (at, (new, before))
+file_change_fits (changes.Kept at new before) = owner_change.fits (at, (new, before))
 
 abbrev pub file_change_reading : List ℕ → Option (FileChange × List ℕ)
 file_change_reading [] = None
 file_change_reading (zero ∷ rest) = behind (λ at. changes.Removed at) path rest
 file_change_reading (suc zero ∷ rest) = behind (λ row. changes.Put row) file_row rest
-file_change_reading (suc (suc zero) ∷ rest) = behind (λ p. changes.Kept p.0 p.1.0 p.1.1) kept rest
+file_change_reading (suc (suc zero) ∷ rest) = behind (λ p. changes.Kept p.0 p.1.0 p.1.1) owner_change rest
 file_change_reading (suc (suc (suc b)) ∷ rest) = None
 
 unfoldable pub file_change : Layout FileChange

@@ -40,9 +40,9 @@ abbrev pub Fails : {A : Type 0} → ReadFault → Option A → Type 0
 Fails Memory read = Unit {0}
 Fails Bad read = read ≡ None
 
-abbrev pub Gives : {X A : Type 0} → (X → A) → Result X ReadFault → Option A → Type 0
-Gives view (Ok x) read = read ≡ Some (view x)
-Gives view (Err e) read = Fails e read
+abbrev pub AnswersReading : {X A : Type 0} → (X → A) → Result X ReadFault → Option A → Type 0
+AnswersReading view (Ok x) read = read ≡ Some (view x)
+AnswersReading view (Err e) read = Fails e read
 
 -- ---- layouts
 

@@ -1,4 +1,7 @@
 pub mod Files
-pub mod FilesSound
 pub mod Layout
-pub mod Sound
+pub mod Values
+pub mod Rows
+pub mod Links
+pub mod Archive
+pub mod Backups

@@ -26,7 +26,7 @@ pub fn put_files_record(into: &mut List<u8>, x: &FilesRecord) -> Result<(), Memo
 }
 
 /// The record that has these bytes; `None` exactly where no record has them.
-#[tactic(auto, using(crate::specs::FilesSound::files_record_decodes))]
+#[tactic(auto, using(crate::proofs::FilesSound::files_record_decodes))]
 pub fn get_files_record(alloc: Global, bytes: &[u8]) -> Result<Option<FilesRecord>, Memory>
     ensures exact { IfOk result (λ found. found ≡ whole files_record bytes.now) }
     ensures decodes { IfOk result (Decodes files_record bytes.now) }
@@ -37,7 +37,6 @@ pub fn get_files_record(alloc: Global, bytes: &[u8]) -> Result<Option<FilesRecor
 #[tactic(auto, unfolding(crate::specs::Files::owner))]
 impl Spelled for Owner {
     ghost use Rattle.dl_codec.specs.Files.{owner};
-    ghost use Rattle.dl_codec.specs.FilesSound.{owner_sound};
 
     ghost layout = { owner };
 
@@ -51,14 +50,11 @@ impl Spelled for Owner {
         let (writable, rest) = bool::get(alloc, rest)?;
         Ok((Owner { name, writable }, rest))
     }
-
-    ghost sound = { owner_sound };
 }
 
 #[tactic(auto, unfolding(crate::specs::Files::file_row))]
 impl Spelled for FileRow {
     ghost use Rattle.dl_codec.specs.Files.{file_row};
-    ghost use Rattle.dl_codec.specs.FilesSound.{file_row_sound};
 
     ghost layout = { file_row };
 
@@ -81,14 +77,11 @@ impl Spelled for FileRow {
         };
         Ok((FileRow { path, file }, rest))
     }
-
-    ghost sound = { file_row_sound };
 }
 
 #[tactic(auto, unfolding(crate::specs::Files::file_change))]
 impl Spelled for FileChange {
     ghost use Rattle.dl_codec.specs.Files.{file_change};
-    ghost use Rattle.dl_codec.specs.FilesSound.{file_change_sound};
 
     ghost layout = { file_change };
 
@@ -130,14 +123,11 @@ impl Spelled for FileChange {
             _ => Err(ReadFault::Bad),
         }
     }
-
-    ghost sound = { file_change_sound };
 }
 
 #[tactic(auto, unfolding(crate::specs::Files::files_record))]
 impl Spelled for FilesRecord {
     ghost use Rattle.dl_codec.specs.Files.{files_record as layout_of_records};
-    ghost use Rattle.dl_codec.specs.FilesSound.{files_record_sound};
 
     ghost layout = { layout_of_records };
 
@@ -161,6 +151,4 @@ impl Spelled for FilesRecord {
             _ => Err(ReadFault::Bad),
         }
     }
-
-    ghost sound = { files_record_sound };
 }

@@ -1,15 +1,25 @@
 //! Records as bytes. Each record has one spelling, and no other bytes are read as that record.
 //!
 //! An area has a file of its types here (`files`), one of their layouts in `specs/` (`Files`), and one of the laws of
-//! these (`FilesSound`). What all areas share is in `spelled`, `whole`, `Layout` and `Sound`.
+//! these in `proofs/` (`FilesSound`). What all areas share is in `spelled`, `whole`, `Layout` and `Sound`.
 #![tactic(auto)]
 
+mod archive;
+mod backups;
 mod files;
+mod laws;
+mod links;
 mod read_fault;
+mod rows;
 mod spelled;
 mod whole;
 
+pub use archive::{ArchiveRecord, FileCopy};
+pub use backups::{BackupRecord, TableImage};
 pub use files::{FilesRecord, get_files_record, put_files_record};
-
-#[cfg(test)]
-mod tests;
+pub use laws::{
+    archive_records_have_one_spelling, backup_records_have_one_spelling, layouts_are_sound,
+    links_records_have_one_spelling, rows_records_have_one_spelling,
+};
+pub use links::{BranchPhase, LinksRecord, Taken};
+pub use rows::{RowChange, RowsRecord, TableChange};

@@ -1,6 +1,6 @@
 // How values are put into bytes and read from them: numbers, flags, options, pairs, lists, texts, paths and names.
 ghost use Rattle.std.specs.Prelude.{◌≡◌, ◌++◌, OnOk};
-ghost use Rattle.dl_codec.specs.Layout.{Layout, IsSound, Gives, times, text};
+ghost use Rattle.dl_codec.specs.Layout.{Layout, AnswersReading, times, text};
 
 use crate::read_fault::ReadFault;
 use dl_base::{List, Memory, Name, Path, Text, is_name, is_path};
@@ -16,15 +16,12 @@ pub trait Spelled: Drop {
 
     /// The value at the front, and the bytes behind it, which are not copied.
     fn get(alloc: Global, bytes: &[u8]) -> Result<(Self, &[u8]), ReadFault>
-        ensures { Gives (λ x. (x.0, x.1.now)) result (layout.reading bytes.now) };
-
-    ghost sound: { IsSound layout };
+        ensures { AnswersReading (λ x. (x.0, x.1.now)) result (layout.reading bytes.now) };
 }
 
 #[tactic(auto, unfolding(crate::specs::Layout::u32))]
 impl Spelled for u32 {
     ghost use Rattle.dl_codec.specs.Layout.{u32 as layout32};
-    ghost use Rattle.dl_codec.specs.Sound.{u32_sound};
 
     ghost layout = { layout32 };
 
@@ -40,14 +37,11 @@ impl Spelled for u32 {
         let number = u32::from_be_bytes([front[0], front[1], front[2], front[3]]);
         Ok((number, rest))
     }
-
-    ghost sound = { u32_sound };
 }
 
 #[tactic(auto, unfolding(crate::specs::Layout::u64))]
 impl Spelled for u64 {
     ghost use Rattle.dl_codec.specs.Layout.{u64 as layout64};
-    ghost use Rattle.dl_codec.specs.Sound.{u64_sound};
 
     ghost layout = { layout64 };
 
@@ -65,14 +59,11 @@ impl Spelled for u64 {
         ]);
         Ok((number, rest))
     }
-
-    ghost sound = { u64_sound };
 }
 
 #[tactic(auto, unfolding(crate::specs::Layout::i64))]
 impl Spelled for i64 {
     ghost use Rattle.dl_codec.specs.Layout.{i64 as signed64};
-    ghost use Rattle.dl_codec.specs.Sound.{i64_sound};
 
     ghost layout = { signed64 };
 
@@ -84,14 +75,11 @@ impl Spelled for i64 {
         let (bits, rest) = u64::get(alloc, bytes)?;
         Ok((bits.cast_signed(), rest))
     }
-
-    ghost sound = { i64_sound };
 }
 
 #[tactic(auto, unfolding(crate::specs::Layout::bool))]
 impl Spelled for bool {
     ghost use Rattle.dl_codec.specs.Layout.{bool as flag};
-    ghost use Rattle.dl_codec.specs.Sound.{bool_sound};
 
     ghost layout = { flag };
 
@@ -110,13 +98,10 @@ impl Spelled for bool {
             _ => Err(ReadFault::Bad),
         }
     }
-
-    ghost sound = { bool_sound };
 }
 
 impl<T: Spelled> Spelled for Option<T> {
     ghost use Rattle.dl_codec.specs.Layout.{option};
-    ghost use Rattle.dl_codec.specs.Sound.{option_sound};
 
     ghost layout = { option T.layout };
 
@@ -140,13 +125,10 @@ impl<T: Spelled> Spelled for Option<T> {
             _ => Err(ReadFault::Bad),
         }
     }
-
-    ghost sound = { option_sound T.layout T.sound };
 }
 
 impl<A: Spelled, B: Spelled> Spelled for (A, B) {
     ghost use Rattle.dl_codec.specs.Layout.{pair};
-    ghost use Rattle.dl_codec.specs.Sound.{pair_sound};
 
     ghost layout = { pair A.layout B.layout };
 
@@ -160,13 +142,10 @@ impl<A: Spelled, B: Spelled> Spelled for (A, B) {
         let (second, rest) = B::get(alloc, rest)?;
         Ok(((first, second), rest))
     }
-
-    ghost sound = { pair_sound A.layout B.layout A.sound B.sound };
 }
 
 impl<T: Spelled> Spelled for List<T> {
     ghost use Rattle.dl_codec.specs.Layout.{list};
-    ghost use Rattle.dl_codec.specs.Sound.{list_sound};
 
     ghost layout = { list T.layout };
 
@@ -185,8 +164,6 @@ impl<T: Spelled> Spelled for List<T> {
         let (count, rest) = u32::get(alloc, bytes)?;
         items_of(alloc, count, rest)
     }
-
-    ghost sound = { list_sound T.layout T.sound };
 }
 
 /// So many items, one after another.
@@ -195,7 +172,7 @@ fn items_of<T: Spelled>(
     count: u32,
     bytes: &[u8],
 ) -> Result<(List<T>, &[u8]), ReadFault>
-    ensures { Gives (λ x. (x.0, x.1.now)) result (times T.layout.reading count bytes.now) }
+    ensures { AnswersReading (λ x. (x.0, x.1.now)) result (times T.layout.reading count bytes.now) }
 {
     let mut items = List::empty(alloc);
     let mut rest = bytes;
@@ -222,7 +199,7 @@ fn put_text(bytes: &[u8], into: &mut List<u8>) -> Result<(), Memory>
 /// The bytes of the text at the front, and the bytes behind it, none of them copied.
 #[tactic(auto, unfolding(crate::specs::Layout::text))]
 fn text_part(alloc: Global, bytes: &[u8]) -> Result<(&[u8], &[u8]), ReadFault>
-    ensures { Gives (λ x. (x.0.now, x.1.now)) result (text.reading bytes.now) }
+    ensures { AnswersReading (λ x. (x.0.now, x.1.now)) result (text.reading bytes.now) }
 {
     let (count, rest) = u32::get(alloc, bytes)?;
     let count = count as usize;
@@ -234,7 +211,6 @@ fn text_part(alloc: Global, bytes: &[u8]) -> Result<(&[u8], &[u8]), ReadFault>
 
 impl Spelled for Text {
     ghost use Rattle.dl_codec.specs.Layout.{text};
-    ghost use Rattle.dl_codec.specs.Sound.{text_sound};
 
     ghost layout = { text };
 
@@ -246,14 +222,11 @@ impl Spelled for Text {
         let (front, rest) = text_part(alloc, bytes)?;
         Ok((Text::of(alloc, front)?, rest))
     }
-
-    ghost sound = { text_sound };
 }
 
 #[tactic(auto, unfolding(crate::specs::Layout::path))]
 impl Spelled for Path {
     ghost use Rattle.dl_codec.specs.Layout.{path};
-    ghost use Rattle.dl_codec.specs.Sound.{path_sound};
 
     ghost layout = { path };
 
@@ -268,14 +241,11 @@ impl Spelled for Path {
         }
         Ok((Path::of(alloc, front)?, rest))
     }
-
-    ghost sound = { path_sound };
 }
 
 #[tactic(auto, unfolding(crate::specs::Layout::name))]
 impl Spelled for Name {
     ghost use Rattle.dl_codec.specs.Layout.{name};
-    ghost use Rattle.dl_codec.specs.Sound.{name_sound};
 
     ghost layout = { name };
 
@@ -290,6 +260,4 @@ impl Spelled for Name {
         }
         Ok((Name::of(alloc, front)?, rest))
     }
-
-    ghost sound = { name_sound };
 }

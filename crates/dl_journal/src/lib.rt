@@ -9,7 +9,5 @@ mod append;
 mod begin;
 mod journal;
 mod parse;
-#[cfg(test)]
-mod tests;
 
 pub use journal::Journal;

@@ -1,6 +1,6 @@
 -- The cases of a location.
-use Rattle.std.proofs.Common.{◌≡◌, ℕ, List, Option, None, Ok, Err, sym, ap, ◌∙◌}
-use Rattle.std.specs.Str.{IsUtf8}
+use Rattle.std.proofs.Common.{◌≡◌, ℕ, List, Option, None, Ok, Err, false, true, sym, ap, ◌∙◌}
+use Rattle.std.specs.Str.{IsUtf8, is_utf8}
 use Rattle.std.proofs.lemmas.Bool.{cond-false, cond-true, false_from_ne_true}
 use Rattle.std.proofs.lemmas.Str.{IsUtf8-from_is_utf8, is_utf8-from_IsUtf8}
 use Rattle.url.specs.Parts.{Parts}
@@ -23,3 +23,9 @@ of_url server text read url why same utf8 parsed is =
     ∙ ap (λ (s : List ℕ). of_parsed server (parse_url None s)) (sym same)
     ∙ ap (of_parsed server) parsed
     ∙ ap (judged url) (sym is)
+
+-- a text is not taken for bytes that are none
+pub no_text : {P : Type 0} (text : List ℕ) → IsUtf8 text → is_utf8 text ≡ false → P
+no_text text utf8 other =
+    let same : is_utf8 text ≡ true = is_utf8-from_IsUtf8 text utf8 in
+    absurd cc

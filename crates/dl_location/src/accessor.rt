@@ -56,8 +56,8 @@ fn scheme_part(location: &[u8]) -> &[u8]
     scheme
 }
 
-// What stands between the first two slashes in a row and the next slash or the end.
-fn host_part(location: &[u8]) -> &[u8]
+/// The host of a location, in its own case: what stands between the first two slashes in a row and the next slash or the end.
+pub fn host_part(location: &[u8]) -> &[u8]
     ensures { result.now ≡ meaning.host_part location.now }
 {
     let behind = behind_slashes(location);

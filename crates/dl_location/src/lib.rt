@@ -3,8 +3,6 @@
 
 mod accessor;
 mod location;
-#[cfg(test)]
-mod tests;
 
-pub use accessor::{Accessor, accessor_text};
+pub use accessor::{Accessor, accessor_text, host_part};
 pub use location::{LocationFault, bad_link_number, read_location};

@@ -1,5 +1,6 @@
 // Which texts are locations.
-ghost use Rattle.std.specs.Prelude.{◌≡◌, MatchResult, IfOk, Ok, None};
+ghost use Rattle.std.specs.Prelude.{◌≡◌, false, MatchResult, IfOk, Ok, Err, None};
+ghost use Rattle.std.specs.Str.{is_utf8};
 ghost use Rattle.url.specs.Parts.{serialize};
 ghost use Rattle.dl_base.specs.Path.{IsPath};
 ghost use Rattle.dl_location.specs.Location as meaning;
@@ -53,8 +54,11 @@ pub fn read_location(
     server: &Name,
     text: &[u8],
 ) -> Result<(Text, Path), LocationFault>
-    ensures { MatchResult result (λ kept. meaning.location server.now text.now ≡ Ok (kept.0, kept.1))
+    ensures value { MatchResult result (λ kept. meaning.location server.now text.now ≡ Ok (kept.0, kept.1))
         (λ e. meaning.IsFault e (meaning.location server.now text.now)) }
+
+    // Bytes that are no text are refused without memory.
+    ensures no_text { is_utf8 text.now ≡ false → result ≡ Err (LocationFault.Bad BadLink.NotUrl) }
 {
     let Ok(text) = str::from_utf8(text) else {
         return Err(LocationFault::Bad(BadLink::NotUrl));

@@ -13,7 +13,7 @@ use Rattle.hex.specs.declared.error.FromHexError.{FromHexError}
 use Rattle.hex.proofs.HexLemmas.{length-encode_with, decode_of-encode_lower}
 use Rattle.hex.specs.Hex.{lower_digits}
 use Rattle.dl_base.specs.declared.file.Token.{Token}
-use Rattle.meaning_files.specs.Tokens.{IsToken, token_text, digit_count, has_no_leading_zero, is_expiry, is_lower_hex, goes_on, has_mac, begins_with_token, token_of, decoded}
+use Rattle.dl_token.specs.Tokens.{IsToken, token_text, digit_count, has_no_leading_zero, is_expiry, is_lower_hex, goes_on, has_mac, begins_with_token, token_of, decoded}
 use Rattle.dl_token.proofs.Digits.{front_digits}
 use Rattle.dl_token.proofs.Hexes.{encoded_is_lower, decodes, decodes_sized, is_spelled, IsSpelled}
 

@@ -4,7 +4,7 @@ use Rattle.std.proofs.lemmas.Bool.{and_parts, and_from, agree_below_at, eqb-true
 use Rattle.std.specs.List.{list_all}
 use Rattle.hex.specs.Hex.{encode_lower, encode_with, lower_digits, decode_of, decode_sized, IsBytes}
 use Rattle.hex.proofs.HexLemmas.{decode_of-encode_lower, decode_sized-encode_lower}
-use Rattle.meaning_files.specs.Tokens.{is_lower_hex, decoded}
+use Rattle.dl_token.specs.Tokens.{is_lower_hex, decoded}
 
 -- the value of a lower-case digit
 abbrev hex_value : ℕ → ℕ

@@ -5,7 +5,7 @@ use Rattle.std.proofs.lemmas.List.Elements.{All-get_or}
 use Rattle.std.proofs.lemmas.Bool.{cases_lt}
 use Rattle.std.proofs.lemmas.List.Sums.{suffix_len_is, suffix_len-le-length, prefix_len_passes, prefix_len_stops, AllPass-from_list_all}
 use Rattle.std.specs.List.{list_all, suffix_len}
-use Rattle.meaning_files.specs.Tokens.{last_name, folder}
+use Rattle.dl_token.specs.Tokens.{last_name, folder}
 
 abbrev pub is_no_slash : ℕ → Bool
 is_no_slash b = not (b == 47)

@@ -9,7 +9,7 @@ use Rattle.std.proofs.lemmas.Option.{slice_get-get_or}
 use Rattle.hex.specs.Hex.{encode_lower}
 use Rattle.dl_base.specs.Path.{IsPath, path_test, is_slash, is_path_byte}
 use Rattle.dl_base.specs.declared.file.Token.{Token}
-use Rattle.meaning_files.specs.Tokens.{IsToken, ReadsAs, token_text, last_name, folder, digit_count, is_lower_hex, begins_with_token, has_token_form, token_of, without_token, with_token, read_token}
+use Rattle.dl_token.specs.Tokens.{IsToken, ReadsAs, token_text, last_name, folder, digit_count, is_lower_hex, begins_with_token, has_token_form, token_of, without_token, with_token, read_token}
 use Rattle.dl_token.proofs.Forms.{all_ascii, named, of_token}
 use Rattle.dl_token.proofs.Hexes.{encoded_is_lower}
 use Rattle.dl_token.proofs.Names.{NoSlash, is_no_slash, folder_ends, folder_of, last_name_of, no_slash_after, no_slash_behind, no_slash_in_last_name, no_slash_of_all, parts}

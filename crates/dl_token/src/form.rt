@@ -1,10 +1,10 @@
 // The form of a token before the last name of a text, and how such a text is read.
-ghost use Rattle.std.specs.Prelude.{◌≡◌, ◌<◌, ◌≤◌, ◌^◌, ◌++◌, ◌+◌, ◌==◌, true, false, not, length, MatchOption, IfOk, drop, take};
+ghost use Rattle.std.specs.Prelude.{◌≡◌, ◌<◌, ◌≤◌, ◌^◌, ◌++◌, ◌+◌, ◌==◌, true, false, not, length, MatchOption, IfOk, Ok, None, drop, take};
 ghost use Rattle.std.specs.List.{list_all, suffix_len};
 ghost use Rattle.std.specs.Char.{is_ascii_digit};
 ghost use Rattle.std.specs.Str.Parse.{AllDigits, digits_value};
 ghost use Rattle.hex.specs.Hex.{decode_of};
-ghost use Rattle.meaning_files.specs.Tokens as meaning;
+ghost use Rattle.dl_token.specs.Tokens as meaning;
 
 use dl_base::{Memory, Path, Token, is_path};
 use hex::FromHex;
@@ -20,9 +20,12 @@ pub fn has_token_form(text: &[u8]) -> bool
 
 /// The path and the token of a text whose last name begins with a token and a semicolon, and that is a path without them;
 /// None exactly where the text is of no path and token. The text may be longer than a path.
-#[tactic(auto, unfolding(meaning_files::specs::Tokens::read_token))]
+#[tactic(auto, unfolding(crate::specs::Tokens::read_token))]
 pub fn read_token(alloc: Global, text: &[u8]) -> Result<Option<(Path, Token)>, Memory>
-    ensures { IfOk result (λ read. read ≡ meaning.read_token text.now) }
+    ensures value { IfOk result (λ read. read ≡ meaning.read_token text.now) }
+
+    // Where the last name is not of the token form it takes no memory.
+    ensures no_form { meaning.has_token_form text.now ≡ false → result ≡ Ok None }
 {
     let (folder, name) = parted(text);
     let Some((token, more)) = token_before(name) else {
@@ -61,7 +64,7 @@ fn joined(alloc: Global, first: &[u8], second: &[u8]) -> Result<Vec<u8>, Memory>
 }
 
 // The token that the name begins with, and what stands behind it and its semicolon.
-#[tactic(auto, using(crate::proofs::Digits::front_digits, crate::proofs::Digits::front_length), unfolding(meaning_files::specs::Tokens::begins_with_token))]
+#[tactic(auto, using(crate::proofs::Digits::front_digits, crate::proofs::Digits::front_length), unfolding(crate::specs::Tokens::begins_with_token))]
 fn token_before(name: &[u8]) -> Option<(Token, &[u8])>
     ensures { MatchOption result (meaning.begins_with_token name.now ≡ false)
         (λ r. (meaning.begins_with_token name.now ≡ true) × (r.0 ≡ meaning.token_of name.now) × (r.1.now ≡ drop (meaning.digit_count name.now + 34) name.now)) }

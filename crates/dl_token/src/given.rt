@@ -2,15 +2,15 @@
 ghost use Rattle.std.specs.Prelude.{◌≡◌, ◌++◌, ◌∷◌, List, ℕ, decimal, take, IfOk, OnOk};
 ghost use Rattle.sha2.specs.Hashers.{Holds256};
 ghost use Rattle.hex.specs.Hex.{encode_lower};
-ghost use Rattle.meaning_files.specs.Links as links;
-ghost use Rattle.meaning_files.specs.Tokens as meaning;
+ghost use Rattle.dl_token.specs.Links as links;
+ghost use Rattle.dl_token.specs.Tokens as meaning;
 
+use crate::Verdict;
 use crate::form::parted;
 use crate::hmac::{digest_of_two, padded};
 use crate::printed::link_text;
 use dl_base::{LinkNo, Memory, Path, Text, Token};
 use itoa::Buffer;
-use meaning_files::Verdict;
 use sha2::{Digest, Sha256};
 use std::alloc::Global;
 
@@ -33,7 +33,7 @@ pub fn expiry_after(now: u64, life: u64) -> u64
 
 /// What a token is worth for reading the file of a path by a link, at a moment in seconds. It is good at its expiry still.
 /// It takes no memory.
-#[tactic(auto, unfolding(meaning_files::specs::Tokens::verdict))]
+#[tactic(auto, unfolding(crate::specs::Tokens::verdict))]
 pub fn verify(key: &[u8; 32], path: &Path, link: LinkNo, now: u64, token: &Token) -> Verdict
     ensures { result ≡ meaning.verdict key.now path.now link now token.now }
 {
@@ -48,7 +48,7 @@ pub fn verify(key: &[u8; 32], path: &Path, link: LinkNo, now: u64, token: &Token
 
 /// A path or a location with a token and a semicolon before its last name, which is what follows its last slash, or all
 /// of it where it has none.
-#[tactic(auto, unfolding(meaning_files::specs::Tokens::with_token))]
+#[tactic(auto, unfolding(crate::specs::Tokens::with_token))]
 pub fn with_token(alloc: Global, text: &[u8], token: &Token) -> Result<Text, Memory>
     ensures { IfOk result (λ made. made ≡ meaning.with_token text.now token.now) }
 {
@@ -79,7 +79,7 @@ fn digits(mac: &[u8; 16]) -> [u8; 32]
 }
 
 // The first 16 bytes of the HMAC of path, link and expiry.
-#[tactic(auto, unfolding(meaning_files::specs::Tokens::mac, meaning_files::specs::Hmac::hmac))]
+#[tactic(auto, unfolding(crate::specs::Tokens::mac, crate::specs::Hmac::hmac))]
 fn mac(key: &[u8; 32], path: &Path, link: LinkNo, expiry: u64) -> [u8; 16]
     ensures { result ≡ meaning.mac key.now path.now link expiry }
 {

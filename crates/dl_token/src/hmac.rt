@@ -1,12 +1,12 @@
 // HMAC over SHA-256.
 ghost use Rattle.std.specs.Prelude.{◌≡◌, ◌≤◌, ◌++◌, length};
 ghost use Rattle.sha2.specs.Sha256.{sha256};
-ghost use Rattle.meaning_files.specs.Hmac.{padded, hmac};
+ghost use Rattle.dl_token.specs.Hmac.{padded, hmac};
 
 use sha2::{Digest, Sha256};
 
 /// HMAC (RFC 2104) of a message, over SHA-256 (FIPS 180-4). It takes no memory.
-#[tactic(auto, unfolding(meaning_files::specs::Hmac::hmac))]
+#[tactic(auto, unfolding(crate::specs::Hmac::hmac))]
 pub fn hmac_sha256(key: &[u8], message: &[u8]) -> [u8; 32]
     requires { length key.now ≤ 64 }
     ensures { result ≡ hmac key.now message.now }

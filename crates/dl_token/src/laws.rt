@@ -2,7 +2,7 @@
 ghost use Rattle.std.specs.Prelude.{◌≡◌, ◌↔◌, List, ℕ, true, Some, None};
 ghost use Rattle.dl_base.specs.Path.{IsPath};
 ghost use Rattle.dl_base.specs.declared.file.Token.{Token as TokenOf};
-ghost use Rattle.meaning_files.specs.Tokens.{has_token_form, read_token, with_token, HasToken, ReadsAs, IsToken};
+ghost use Rattle.dl_token.specs.Tokens.{has_token_form, read_token, with_token, HasToken, ReadsAs, IsToken};
 
 /// A text is of the token form exactly where its last name is some token, a semicolon and at least one byte more.
 pub fn form_is_of_a_token()

@@ -7,12 +7,11 @@ mod given;
 mod hmac;
 mod laws;
 mod printed;
-#[cfg(test)]
-mod tests;
+mod verdict;
 
 pub use form::{has_token_form, read_token};
 pub use given::{expiry_after, token, verify, with_token};
 pub use hmac::hmac_sha256;
 pub use laws::{form_is_of_a_token, reading_is_of_a_path};
-pub use meaning_files::Verdict;
 pub use printed::{NumberText, link_text, transaction_text};
+pub use verdict::Verdict;

@@ -1,7 +1,7 @@
 // How the numbers of transactions and links are printed.
 ghost use Rattle.std.specs.Prelude.{◌≡◌, ◌<◌, ◌≤◌, ◌+◌, ◌^◌, ◌++◌, length, decimal};
 ghost use Rattle.arrayvec.specs.ArrayVec.{array_vec_len};
-ghost use Rattle.meaning_files.specs.Links as meaning;
+ghost use Rattle.dl_token.specs.Links as meaning;
 
 use arrayvec::ArrayVec;
 use dl_base::LinkNo;

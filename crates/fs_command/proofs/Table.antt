@@ -3,7 +3,7 @@ use Rattle.std.proofs.Common.{◌≡◌, ℕ, ◌+◌, ◌==◌, Bool, true, fal
 use Rattle.std.proofs.lemmas.Slice.Eq.{bytes_eq-Decides}
 use Rattle.dl_base.specs.Path.{path_test}
 use Rattle.dl_base.specs.declared.file.Token.{Token}
-use Rattle.meaning_files.specs.Tokens.{read_token}
+use Rattle.dl_token.specs.Tokens.{read_token}
 use Rattle.fs_command.specs.declared.line.FileLine.{FileLine}
 use Rattle.fs_command.specs.Words.{Word, words}
 use Rattle.dl_base.specs.declared.file.FileWhat.TheVariants as whats
@@ -25,7 +25,7 @@ nothing_behind line end (w ∷ ws) = refl
 
 -- one word, and then what follows it
 module _ {A : Type 0} (what : Word → Option A) (fits : List ℕ → Bool) (same : (w : Word) → is_some (what w) ≡ fits w.bytes) where
-  word_behind : (next : A → Ending) (more : List (List ℕ → Bool)) (free : Bool) (end : ℕ) → ((a : A) (ws : List Word) → refused_at (next a end ws) ≡ bad_place end ((more, free) ∷ []) ws) → (ws : List Word) → refused_at ((word what >>= next) end ws) ≡ bad_place end ((fits ∷ more, free) ∷ []) ws
+  word_behind : (next : A → Ending FileLine) (more : List (List ℕ → Bool)) (free : Bool) (end : ℕ) → ((a : A) (ws : List Word) → refused_at (next a end ws) ≡ bad_place end ((more, free) ∷ []) ws) → (ws : List Word) → refused_at ((word what >>= next) end ws) ≡ bad_place end ((fits ∷ more, free) ∷ []) ws
   word_behind next more free end h [] = refl
   word_behind next more free end h (w ∷ ws) = by_what (what w) refl
     where

@@ -1,13 +1,15 @@
 -- What the words of a file command ask, or the place of the first word that fits no command behind those before it.
 use Rattle.std.specs.Prelude.{◌≡◌, ◌<◌, ◌≤◌, ℕ, ◌+◌, Bool, true, false, ◌&&◌, not, ◌==◌, nat_le, if◌then◌else◌, List, [], ◌∷◌, length, drop, codes, bytes_eq, Option, Some, None, Result, Ok, Err}
+use Rattle.dl_base.specs.Limits.{most_actor_name_bytes}
 use Rattle.dl_base.specs.Name.{name_test}
 use Rattle.dl_base.specs.Path.{path_test}
 use Rattle.dl_base.specs.declared.file.FileWhat.{FileWhat}
 use Rattle.dl_base.specs.declared.file.FileWhat.TheVariants as whats
 use Rattle.dl_base.specs.declared.file.Token.{Token}
-use Rattle.meaning_files.specs.Tokens.{has_token_form, read_token}
+use Rattle.dl_token.specs.Tokens.{has_token_form, read_token}
 use Rattle.fs_command.specs.declared.line.FileLine.{FileLine}
 use Rattle.fs_command.specs.declared.line.FileLine.TheVariants as lines
+use Rattle.fs_command.specs.declared.line.BadPlace.{BadPlace}
 use Rattle.fs_command.specs.declared.line.CommandFault.{CommandFault}
 use Rattle.fs_command.specs.declared.line.CommandFault.TheVariants as faults
 use Rattle.fs_command.specs.Words.{Word, words}
@@ -18,8 +20,8 @@ abbrev pub Part : Type 0 → Type 0
 Part A = ℕ → List Word → Result (A × List Word) ℕ
 
 -- what the words that are left ask as a whole
-abbrev pub Ending : Type 0
-Ending = ℕ → List Word → Result FileLine ℕ
+abbrev pub Ending : Type 0 → Type 0
+Ending A = ℕ → List Word → Result A ℕ
 
 abbrev pub fitted : {A : Type 0} → Option A → ℕ → List Word → Result (A × List Word) ℕ
 fitted None place ws = Err place
@@ -31,21 +33,21 @@ word what end [] = Err end
 word what end (w ∷ ws) = fitted (what w) w.place ws
 
 -- no word more
-abbrev pub nothing : FileLine → Ending
-nothing line end [] = Ok line
-nothing line end (w ∷ ws) = Err w.place
+abbrev pub nothing : {A : Type 0} → A → Ending A
+nothing value end [] = Ok value
+nothing value end (w ∷ ws) = Err w.place
 
 -- anything
-abbrev pub anything : FileLine → Ending
+abbrev pub anything : FileLine → Ending FileLine
 anything line end ws = Ok line
 
 -- a part, and then an ending
-abbrev pub followed : {A : Type 0} → Result (A × List Word) ℕ → (A → Ending) → ℕ → Result FileLine ℕ
+abbrev pub followed : {A B : Type 0} → Result (A × List Word) ℕ → (A → Ending B) → ℕ → Result B ℕ
 followed (Err place) next end = Err place
 followed (Ok read) next end = next read.0 end read.1
 
 infixl 10 ◌>>=◌
-abbrev pub ◌>>=◌ : {A : Type 0} → Part A → (A → Ending) → Ending
+abbrev pub ◌>>=◌ : {A B : Type 0} → Part A → (A → Ending B) → Ending B
 (part >>= next) end ws = followed (part end ws) next end
 
 abbrev pub is : List ℕ → List ℕ → Bool
@@ -68,9 +70,9 @@ flag_of w = if is (codes "on") w.bytes then Some true else (if is (codes "off") 
 abbrev pub flag : Part Bool
 flag = word flag_of
 
--- NAME of `$NAME`: a name of at most 16 bytes
+-- NAME of `$NAME`: a name that is not too long
 unfoldable pub is_session : List ℕ → Bool
-is_session name = name_test name && nat_le (length name) 16
+is_session name = name_test name && nat_le (length name) most_actor_name_bytes
 
 abbrev pub read_of_session : List ℕ → List ℕ → Option FileLine
 read_of_session user [] = None
@@ -100,48 +102,48 @@ abbrev pub behind : List ℕ → Word → List ℕ
 behind text w = drop (w.place + length w.bytes) text
 
 -- create PATH [" " bytes], and write
-unfoldable pub create : List ℕ → List ℕ → Ending
+unfoldable pub create : List ℕ → List ℕ → Ending FileLine
 create user text = do
   p ← path
   anything (asked user (whats.Create p.bytes (behind text p)))
 
-unfoldable pub write : List ℕ → List ℕ → Ending
+unfoldable pub write : List ℕ → List ℕ → Ending FileLine
 write user text = do
   p ← path
   anything (asked user (whats.Write p.bytes (behind text p)))
 
 -- delete PATH
-unfoldable pub delete : List ℕ → Ending
+unfoldable pub delete : List ℕ → Ending FileLine
 delete user = do
   p ← path
   nothing (asked user (whats.Delete p.bytes))
 
 -- rename PATH PATH
-unfoldable pub rename : List ℕ → Ending
+unfoldable pub rename : List ℕ → Ending FileLine
 rename user = do
   p ← path
   q ← path
   nothing (asked user (whats.Rename p.bytes q.bytes))
 
 -- chmod PATH (on|off)
-unfoldable pub chmod : List ℕ → Ending
+unfoldable pub chmod : List ℕ → Ending FileLine
 chmod user = do
   p ← path
   on ← flag
   nothing (asked user (whats.Chmod p.bytes on))
 
 -- read (READPATH | "$" NAME)
-unfoldable pub read : List ℕ → Ending
+unfoldable pub read : List ℕ → Ending FileLine
 read user = do
   line ← word (source_of user)
   nothing line
 
 -- list
-unfoldable pub list : List ℕ → Ending
+unfoldable pub list : List ℕ → Ending FileLine
 list user = nothing (asked user whats.List)
 
 -- what follows the first word
-abbrev pub verb_then : List ℕ → List ℕ → Word → Ending
+abbrev pub verb_then : List ℕ → List ℕ → Word → Ending FileLine
 verb_then user text verb =
     if is (codes "create") verb.bytes then create user text
     else (if is (codes "write") verb.bytes then write user text
@@ -155,7 +157,7 @@ verb_then user text verb =
 abbrev pub first : Word → Option Word
 first w = Some w
 
-abbrev pub command_words : List ℕ → List ℕ → Ending
+abbrev pub command_words : List ℕ → List ℕ → Ending FileLine
 command_words user text = do
   verb ← word first
   verb_then user text verb
@@ -169,11 +171,20 @@ abbrev pub IfBad : CommandFault → (ℕ → Type 0) → Type 0
 IfBad (faults.BadCommand place) P = P place
 IfBad faults.Memory P = Unit {0}
 
--- the answer is that value or that place, unless memory ran out
-abbrev pub Gives : {A : Type 0} → Result A CommandFault → Result A ℕ → Type 0
-Gives (Ok value) r = r ≡ Ok value
-Gives (Err fault) r = IfBad fault (λ place. r ≡ Err place)
+-- the answer is that line or that place, unless memory ran out
+abbrev pub GivesLine : Result FileLine CommandFault → Result FileLine ℕ → Type 0
+GivesLine (Ok line) r = r ≡ Ok line
+GivesLine (Err fault) r = IfBad fault (λ place. r ≡ Err place)
 
--- a place that a fault names is that of a byte of a text, from 1, or one past its end
+-- the answer is that value or that place
+abbrev pub IsReading : {A : Type 0} → Result A BadPlace → Result A ℕ → Type 0
+IsReading (Ok value) r = r ≡ Ok value
+IsReading (Err bad) r = r ≡ Err bad.place
+
+-- the place of a byte of a text, from 1, or one past its end
+abbrev pub IsPlaceOf : List ℕ → ℕ → Type 0
+IsPlaceOf text place = (0 < place) × (place ≤ length text + 1)
+
+-- a place that a fault names is one of the text
 abbrev pub IsPlaceIn : List ℕ → CommandFault → Type 0
-IsPlaceIn text fault = IfBad fault (λ place. (0 < place) × (place ≤ length text + 1))
+IsPlaceIn text fault = IfBad fault (λ place. IsPlaceOf text place)

@@ -2,7 +2,7 @@
 use Rattle.std.specs.Prelude.{ℕ, Bool, true, false, ◌&&◌, ◌||◌, ◌==◌, if◌then◌else◌, List, [], ◌∷◌, codes, is_some, Option, Some, None, Result, Ok, Err}
 use Rattle.std.specs.List.{list_any, flat_map}
 use Rattle.dl_base.specs.Path.{path_test}
-use Rattle.meaning_files.specs.Tokens.{read_token}
+use Rattle.dl_token.specs.Tokens.{read_token}
 use Rattle.fs_command.specs.Words.{Word}
 use Rattle.fs_command.specs.Commands.{is, is_command_path, is_session}
 

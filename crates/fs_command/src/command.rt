@@ -2,16 +2,14 @@
 ghost use Rattle.std.specs.Prelude.{◌≡◌, ◌≤◌, ◌<◌, ◌+◌, ◌==◌, ◌∷◌, true, length, drop, IfOk, Ok, Err, slice_range};
 ghost use Rattle.std.specs.Result.{IfErr};
 ghost use Rattle.fs_command.specs.Words.{words_from, word_at};
-ghost use Rattle.fs_command.specs.Commands.{Gives, IsPlaceIn, command, is_command_path, is_session, create, write, delete, rename, chmod, read, list, nothing, asked, behind, source_in};
+ghost use Rattle.fs_command.specs.Commands.{GivesLine, IsReading, IsPlaceIn, IsPlaceOf, command, is_command_path, is_session, create, write, delete, rename, chmod, read, list, asked, behind, source_in};
 
-use crate::line::{CommandFault, FileLine};
-use crate::word::{Span, flag_word, misplaced, next_word, path_word};
+use crate::line::{BadPlace, CommandFault, FileLine};
+use crate::word::{Span, flag_word, misplaced, next_word, nothing_behind, path_word};
+use dl_base::limits::MOST_ACTOR_NAME_BYTES;
 use dl_base::{FileCmd, FileWhat, Memory, Name, Path, Text, is_name, is_path};
 use dl_token::read_token;
 use std::alloc::Global;
-
-/// A session's name has at most so many bytes.
-const MOST_NAME_BYTES: usize = 16;
 
 /// What a user asks of the files by a text: all that stands behind the user on a file line. Its words are separated by one
 /// or more spaces, which may stand before the first and behind the last word too; the content of `create` and `write` is
@@ -21,7 +19,7 @@ const MOST_NAME_BYTES: usize = 16;
 /// It reads each byte a fixed number of times.
 #[tactic(auto, unfolding(crate::specs::Commands::command))]
 pub fn read_command(alloc: Global, user: Name, text: &[u8]) -> Result<FileLine, CommandFault>
-    ensures exact { Gives result (command user text.now) }
+    ensures exact { GivesLine result (command user text.now) }
     ensures place { IfErr result (λ e. IsPlaceIn text.now e) }
 {
     let verb = next_word(text, 0)?;
@@ -46,27 +44,15 @@ pub fn read_command(alloc: Global, user: Name, text: &[u8]) -> Result<FileLine, 
         return read(alloc, user, text, at);
     }
     if bytes == b"list".as_slice() {
-        return list(user, text, at);
+        return Ok(list(user, text, at)?);
     }
-    Err(misplaced(verb.begin))
-}
-
-// The line, where no word stands from an index on.
-fn nothing_behind(line: FileLine, text: &[u8], at: usize) -> Result<FileLine, CommandFault>
-    requires { at ≤ length text.now }
-    ensures exact { Gives result (nothing line (length text.now + 1) (words_from at text.now)) }
-    ensures place { IfErr result (λ e. IsPlaceIn text.now e) }
-{
-    match next_word(text, at) {
-        Ok(word) => Err(misplaced(word.begin)),
-        Err(_) => Ok(line),
-    }
+    Err(misplaced(verb.begin).into())
 }
 
 #[tactic(auto, unfolding(crate::specs::Commands::create))]
 fn create(alloc: Global, user: Name, text: &[u8], at: usize) -> Result<FileLine, CommandFault>
     requires { at ≤ length text.now }
-    ensures exact { Gives result (create user text.now (length text.now + 1) (words_from at text.now)) }
+    ensures exact { GivesLine result (create user text.now (length text.now + 1) (words_from at text.now)) }
     ensures place { IfErr result (λ e. IsPlaceIn text.now e) }
 {
     let word = path_word(text, at)?;
@@ -78,7 +64,7 @@ fn create(alloc: Global, user: Name, text: &[u8], at: usize) -> Result<FileLine,
 #[tactic(auto, unfolding(crate::specs::Commands::write))]
 fn write(alloc: Global, user: Name, text: &[u8], at: usize) -> Result<FileLine, CommandFault>
     requires { at ≤ length text.now }
-    ensures exact { Gives result (write user text.now (length text.now + 1) (words_from at text.now)) }
+    ensures exact { GivesLine result (write user text.now (length text.now + 1) (words_from at text.now)) }
     ensures place { IfErr result (λ e. IsPlaceIn text.now e) }
 {
     let word = path_word(text, at)?;
@@ -90,44 +76,44 @@ fn write(alloc: Global, user: Name, text: &[u8], at: usize) -> Result<FileLine, 
 #[tactic(auto, unfolding(crate::specs::Commands::delete))]
 fn delete(alloc: Global, user: Name, text: &[u8], at: usize) -> Result<FileLine, CommandFault>
     requires { at ≤ length text.now }
-    ensures exact { Gives result (delete user (length text.now + 1) (words_from at text.now)) }
+    ensures exact { GivesLine result (delete user (length text.now + 1) (words_from at text.now)) }
     ensures place { IfErr result (λ e. IsPlaceIn text.now e) }
 {
     let word = path_word(text, at)?;
     let path = path_at(alloc, text, word)?;
-    nothing_behind(asked(user, FileWhat::Delete(path)), text, word.end)
+    Ok(nothing_behind(asked(user, FileWhat::Delete(path)), text, word.end)?)
 }
 
 #[tactic(auto, unfolding(crate::specs::Commands::rename))]
 fn rename(alloc: Global, user: Name, text: &[u8], at: usize) -> Result<FileLine, CommandFault>
     requires { at ≤ length text.now }
-    ensures exact { Gives result (rename user (length text.now + 1) (words_from at text.now)) }
+    ensures exact { GivesLine result (rename user (length text.now + 1) (words_from at text.now)) }
     ensures place { IfErr result (λ e. IsPlaceIn text.now e) }
 {
     let from = path_word(text, at)?;
     let to = path_word(text, from.end)?;
     let old = path_at(alloc, text, from)?;
     let new = path_at(alloc, text, to)?;
-    nothing_behind(asked(user, FileWhat::Rename(old, new)), text, to.end)
+    Ok(nothing_behind(asked(user, FileWhat::Rename(old, new)), text, to.end)?)
 }
 
 #[tactic(auto, unfolding(crate::specs::Commands::chmod))]
 fn chmod(alloc: Global, user: Name, text: &[u8], at: usize) -> Result<FileLine, CommandFault>
     requires { at ≤ length text.now }
-    ensures exact { Gives result (chmod user (length text.now + 1) (words_from at text.now)) }
+    ensures exact { GivesLine result (chmod user (length text.now + 1) (words_from at text.now)) }
     ensures place { IfErr result (λ e. IsPlaceIn text.now e) }
 {
     let word = path_word(text, at)?;
     let (on, end) = flag_word(text, word.end)?;
     let path = path_at(alloc, text, word)?;
-    nothing_behind(asked(user, FileWhat::Chmod(path, on)), text, end)
+    Ok(nothing_behind(asked(user, FileWhat::Chmod(path, on)), text, end)?)
 }
 
 #[tactic(auto, unfolding(crate::specs::Commands::list))]
-fn list(user: Name, text: &[u8], at: usize) -> Result<FileLine, CommandFault>
+fn list(user: Name, text: &[u8], at: usize) -> Result<FileLine, BadPlace>
     requires { at ≤ length text.now }
-    ensures exact { Gives result (list user (length text.now + 1) (words_from at text.now)) }
-    ensures place { IfErr result (λ e. IsPlaceIn text.now e) }
+    ensures exact { IsReading result (list user (length text.now + 1) (words_from at text.now)) }
+    ensures place { IfErr result (λ e. IsPlaceOf text.now e.place) }
 {
     nothing_behind(asked(user, FileWhat::List), text, at)
 }
@@ -135,14 +121,14 @@ fn list(user: Name, text: &[u8], at: usize) -> Result<FileLine, CommandFault>
 #[tactic(auto, unfolding(crate::specs::Commands::read))]
 fn read(alloc: Global, user: Name, text: &[u8], at: usize) -> Result<FileLine, CommandFault>
     requires { at ≤ length text.now }
-    ensures exact { Gives result (read user (length text.now + 1) (words_from at text.now)) }
+    ensures exact { GivesLine result (read user (length text.now + 1) (words_from at text.now)) }
     ensures place { IfErr result (λ e. IsPlaceIn text.now e) }
 {
     let word = next_word(text, at)?;
     let Some(line) = source_of(alloc, user, &text[word.begin..word.end])? else {
-        return Err(misplaced(word.begin));
+        return Err(misplaced(word.begin).into());
     };
-    nothing_behind(line, text, word.end)
+    Ok(nothing_behind(line, text, word.end)?)
 }
 
 // What a read asks of this word.
@@ -168,7 +154,7 @@ fn source_of(alloc: Global, user: Name, word: &[u8]) -> Result<Option<FileLine>,
 fn is_session(name: &[u8]) -> bool
     ensures { result ≡ is_session name.now }
 {
-    is_name(name) && name.len() <= MOST_NAME_BYTES
+    is_name(name) && name.len() <= MOST_ACTOR_NAME_BYTES
 }
 
 #[tactic(auto, unfolding(crate::specs::Commands::is_session))]

@@ -4,11 +4,9 @@
 mod command;
 mod laws;
 mod line;
-#[cfg(test)]
-mod tests;
 mod word;
 
 pub use command::read_command;
 pub use laws::places_are_those_of_the_grammar;
-pub use line::{CommandFault, FileLine};
-pub use word::{Span, next_word};
+pub use line::{BadPlace, CommandFault, FileLine};
+pub use word::{Span, misplaced, next_word, nothing_behind};

@@ -14,6 +14,14 @@ pub enum FileLine {
     ReadOf(Name, Name),
 }
 
+/// Where a text goes wrong: the place, in bytes from 1, of the first word that does not fit behind the words before it, or the
+/// place behind the text's last byte where a word is missing.
+#[derive(Clone, Copy, Debug, PartialEq, Eq, Error)]
+#[error("no word fits at byte {place}")]
+pub struct BadPlace {
+    pub place: u64,
+}
+
 /// Why a text is no file command.
 #[derive(Clone, Copy, Debug, PartialEq, Eq, Error)]
 pub enum CommandFault {
@@ -23,6 +31,14 @@ pub enum CommandFault {
     BadCommand(u64),
     #[error("no memory")]
     Memory,
+}
+
+impl From<BadPlace> for CommandFault {
+    ghost from_gives = { λ bad e. e ≡ faults.BadCommand bad.place };
+
+    fn from(bad: BadPlace) -> CommandFault {
+        CommandFault::BadCommand(bad.place)
+    }
 }
 
 impl From<Memory> for CommandFault {

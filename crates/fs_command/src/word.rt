@@ -3,9 +3,9 @@ ghost use Rattle.std.specs.Prelude.{◌≡◌, ◌≤◌, ◌<◌, ◌+◌, ◌=
 ghost use Rattle.std.specs.List.{prefix_len, slice_range};
 ghost use Rattle.std.specs.Result.{IfErr};
 ghost use Rattle.fs_command.specs.Words.{words_from, word_at};
-ghost use Rattle.fs_command.specs.Commands.{IfBad, IsPlaceIn, path, flag, is_command_path};
+ghost use Rattle.fs_command.specs.Commands.{IsReading, IsPlaceOf, nothing, path, flag, is_command_path};
 
-use crate::line::CommandFault;
+use crate::line::BadPlace;
 use dl_base::is_path;
 use dl_token::has_token_form;
 
@@ -16,32 +16,34 @@ pub struct Span {
     pub end: usize,
 }
 
-/// The next word from an index on: bytes that are no spaces, behind spaces. `BadCommand` is the place behind the text's last byte,
-/// from 1, and comes exactly where no word is left. It takes no memory.
-pub fn next_word(text: &[u8], at: usize) -> Result<Span, CommandFault>
+/// The next word from an index on: bytes that are no spaces, behind spaces. The bad place is that behind the text's last byte, and
+/// comes exactly where no word is left. It takes no memory.
+pub fn next_word(text: &[u8], at: usize) -> Result<Span, BadPlace>
     requires { at ≤ length text.now }
-    ensures place { IfErr result (λ e. IsPlaceIn text.now e) }
+    ensures place { IfErr result (λ e. IsPlaceOf text.now e.place) }
     ensures within { IfOk result (λ s. (at ≤ s.begin) × (s.begin < s.end) × (s.end ≤ length text.now)) }
     ensures value { MatchResult result
         (λ s. words_from at text.now ≡ word_at text.now s.begin s.end ∷ words_from s.end text.now)
-        (λ e. (words_from at text.now ≡ []) × IfBad e (λ k. k ≡ length text.now + 1)) }
+        (λ e. (words_from at text.now ≡ []) × (e.place ≡ length text.now + 1)) }
 {
     let begin = at + spaces(&text[at..]);
     let end = begin + word_len(&text[begin..]);
     if begin == end {
-        return Err(CommandFault::BadCommand(text.len() as u64 + 1));
+        return Err(BadPlace {
+            place: text.len() as u64 + 1,
+        });
     }
     Ok(Span { begin, end })
 }
 
 /// The next word, which is a path.
-pub(crate) fn path_word(text: &[u8], at: usize) -> Result<Span, CommandFault>
+pub(crate) fn path_word(text: &[u8], at: usize) -> Result<Span, BadPlace>
     requires { at ≤ length text.now }
-    ensures place { IfErr result (λ e. IsPlaceIn text.now e) }
+    ensures place { IfErr result (λ e. IsPlaceOf text.now e.place) }
     ensures within { IfOk result (λ s. (at ≤ s.begin) × (s.begin < s.end) × (s.end ≤ length text.now)) }
     ensures value { MatchResult result
         (λ s. path (length text.now + 1) (words_from at text.now) ≡ Ok (word_at text.now s.begin s.end, words_from s.end text.now))
-        (λ e. IfBad e (λ k. path (length text.now + 1) (words_from at text.now) ≡ Err k)) }
+        (λ e. path (length text.now + 1) (words_from at text.now) ≡ Err e.place) }
     ensures is_path { IfOk result (λ s. is_command_path (slice_range text.now s.begin s.end) ≡ true) }
 {
     let word = next_word(text, at)?;
@@ -52,13 +54,13 @@ pub(crate) fn path_word(text: &[u8], at: usize) -> Result<Span, CommandFault>
 }
 
 /// The next word, which is `on` or `off`, and the index behind it.
-pub(crate) fn flag_word(text: &[u8], at: usize) -> Result<(bool, usize), CommandFault>
+pub(crate) fn flag_word(text: &[u8], at: usize) -> Result<(bool, usize), BadPlace>
     requires { at ≤ length text.now }
-    ensures place { IfErr result (λ e. IsPlaceIn text.now e) }
+    ensures place { IfErr result (λ e. IsPlaceOf text.now e.place) }
     ensures within { IfOk result (λ f. f.1 ≤ length text.now) }
     ensures value { MatchResult result
         (λ f. flag (length text.now + 1) (words_from at text.now) ≡ Ok (f.0, words_from f.1 text.now))
-        (λ e. IfBad e (λ k. flag (length text.now + 1) (words_from at text.now) ≡ Err k)) }
+        (λ e. flag (length text.now + 1) (words_from at text.now) ≡ Err e.place) }
 {
     let word = next_word(text, at)?;
     let bytes = &text[word.begin..word.end];
@@ -71,12 +73,26 @@ pub(crate) fn flag_word(text: &[u8], at: usize) -> Result<(bool, usize), Command
     Err(misplaced(word.begin))
 }
 
-/// That the word from this index, from 0, fits nothing.
-pub(crate) fn misplaced(begin: usize) -> CommandFault
-    requires { begin < usize.MAX }
-    ensures { result ≡ CommandFault.BadCommand (begin + 1) }
+/// The value, where no word stands from an index on; else the place of the next word. It takes no memory.
+pub fn nothing_behind<T: Drop>(value: T, text: &[u8], at: usize) -> Result<T, BadPlace>
+    requires { at ≤ length text.now }
+    ensures exact { IsReading result (nothing value (length text.now + 1) (words_from at text.now)) }
+    ensures place { IfErr result (λ e. IsPlaceOf text.now e.place) }
 {
-    CommandFault::BadCommand(begin as u64 + 1)
+    match next_word(text, at) {
+        Ok(word) => Err(misplaced(word.begin)),
+        Err(_) => Ok(value),
+    }
+}
+
+/// That the word from this index, from 0, fits nothing: its place counts from 1.
+pub fn misplaced(begin: usize) -> BadPlace
+    requires { begin < usize.MAX }
+    ensures { result.place ≡ begin + 1 }
+{
+    BadPlace {
+        place: begin as u64 + 1,
+    }
 }
 
 /// Whether the bytes are a path whose last name is not of the token form.

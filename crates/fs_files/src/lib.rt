@@ -6,6 +6,3 @@ mod store;
 mod table;
 
 pub use store::Files;
-
-#[cfg(test)]
-mod tests;

@@ -13,6 +13,7 @@ ghost use Rattle.meaning_files.specs.Commands.{refusal, refusal_of, changed, cha
 
 use crate::fold::{fold, make_batch};
 use crate::table::FileTable;
+use dl_base::limits::MOST_FILES;
 use dl_base::{
     Area, BeginFault, Bench, File, FileChange, FileCmd, FileRefusal, FileRow, FileWhat, Limit,
     List, Memory, Name, Owner, Path, StepFault,
@@ -21,9 +22,6 @@ use dl_codec::{FilesRecord, put_files_record};
 use dl_journal::Journal;
 use std::alloc::Global;
 use std::marker::Model;
-
-/// How many files there may be.
-const MOST_FILES: usize = 65_536;
 
 /// The files, in memory and in the area Files. Contracts see the files in the order of the paths' bytes, how many
 /// bytes the area's records and closing gate are, and how many they may be.
@@ -89,7 +87,10 @@ impl Files {
 
     /// Why a command is refused, if it is.
     pub fn test(&self, cmd: &FileCmd) -> Result<Option<FileRefusal>, Memory>
-        ensures { IfOk result (λ why. why ≡ refusal self.now.files cmd.now) }
+        ensures value { IfOk result (λ why. why ≡ refusal self.now.files cmd.now) }
+
+        // It takes memory only for what a refusal says.
+        ensures accepted { refusal self.now.files cmd.now ≡ None → result ≡ Ok None }
     {
         match &cmd.what {
             FileWhat::Create(path, _) => self.test_create(path),
@@ -100,7 +101,8 @@ impl Files {
     }
 
     fn test_create(&self, path: &Path) -> Result<Option<FileRefusal>, Memory>
-        ensures { IfOk result (λ why. why ≡ create_refusal path.now (map.len self.now.files) (map.get self.now.files path.now)) }
+        ensures value { IfOk result (λ why. why ≡ create_refusal path.now (map.len self.now.files) (map.get self.now.files path.now)) }
+        ensures accepted { create_refusal path.now (map.len self.now.files) (map.get self.now.files path.now) ≡ None → result ≡ Ok None }
     {
         match self.table.get(path) {
             Some(_) => Ok(Some(FileRefusal::Exists(path.copy()?))),
@@ -115,7 +117,8 @@ impl Files {
     }
 
     fn test_delete(&self, user: &Name, path: &Path) -> Result<Option<FileRefusal>, Memory>
-        ensures { IfOk result (λ why. why ≡ delete_refusal user.now path.now (map.get self.now.files path.now)) }
+        ensures value { IfOk result (λ why. why ≡ delete_refusal user.now path.now (map.get self.now.files path.now)) }
+        ensures accepted { delete_refusal user.now path.now (map.get self.now.files path.now) ≡ None → result ≡ Ok None }
     {
         match self.table.get(path) {
             Some(file) => {
@@ -131,7 +134,8 @@ impl Files {
     }
 
     fn test_read(&self, path: &Path) -> Result<Option<FileRefusal>, Memory>
-        ensures { IfOk result (λ why. why ≡ read_refusal path.now (map.get self.now.files path.now)) }
+        ensures value { IfOk result (λ why. why ≡ read_refusal path.now (map.get self.now.files path.now)) }
+        ensures accepted { read_refusal path.now (map.get self.now.files path.now) ≡ None → result ≡ Ok None }
     {
         match self.table.get(path) {
             Some(_) => Ok(None),

@@ -7,7 +7,7 @@ use Rattle.dl_base.specs.declared.file.FileChange.{FileChange}
 use Rattle.dl_base.specs.declared.file.FileWhat.{FileWhat}
 use Rattle.dl_base.specs.declared.file.FileWhat.TheVariants as whats
 use Rattle.dl_codec.specs.Files.{files_record}
-use Rattle.dl_codec.specs.FilesSound.{whole_files_record}
+use Rattle.dl_codec.proofs.FilesSound.{whole_files_record}
 use Rattle.dl_codec.specs.declared.files.FilesRecord.{FilesRecord}
 use Rattle.dl_codec.specs.declared.files.FilesRecord.TheVariants as records
 use Rattle.meaning_areas.specs.FilesArea.{if_there, with_changes, with_record, files_step, files_of, changes_of, user_record}

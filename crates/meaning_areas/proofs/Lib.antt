@@ -1,2 +1,17 @@
 pub mod FilesLaws
 pub mod FoldLaws
+pub mod Tables
+pub mod Append
+pub mod Standing
+pub mod Steps
+pub mod Deciding
+pub mod Stops
+pub mod Opened
+pub mod Batches
+pub mod NextRecord
+pub mod Whole
+pub mod Votes
+pub mod Restored
+pub mod FinishList
+pub mod Ordered
+pub mod Equal

@@ -1,2 +1,14 @@
 pub mod FilesArea
 pub mod Folds
+pub mod Same
+pub mod Commits
+pub mod Branches
+pub mod Copies
+pub mod Lists
+pub mod Finishing
+pub mod Stands
+pub mod Core
+pub mod Joint
+pub mod Merges
+pub mod Moving
+pub mod Areas

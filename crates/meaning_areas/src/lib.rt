@@ -1,2 +1,11 @@
-//! What areas stand for: the folds of their records, and the records that steps write. Definitions and their laws.
+//! What areas stand for: the folds of their records, what the five stand for together, and the records that steps write.
+//! Definitions and their laws.
 #![tactic(auto)]
+
+mod laws;
+
+pub use laws::{
+    areas_stand_where_all_compares, commits_and_backups_keep_stored_parts_whole,
+    lists_stand_for_their_core, one_more_record_changes_nothing, prepared_of_a_claim_is_taken,
+    records_of_a_finish_settle, same_tables_are_equal, steps_keep_lists_with_their_core,
+};

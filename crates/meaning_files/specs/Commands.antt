@@ -2,6 +2,7 @@
 use Rattle.std.specs.Prelude.{ℕ, true, if◌then◌else◌, List, Option, Some, None, nat_lt, ◌==◌}
 use Rattle.std.specs.Cmp.Lexicographic.{pointwise}
 use Rattle.std.specs.FinMap as map
+use Rattle.dl_base.specs.Limits.{most_files}
 use Rattle.dl_base.specs.declared.answer.Answer.{Answer}
 use Rattle.dl_base.specs.declared.answer.Answer.TheVariants as answers
 use Rattle.dl_base.specs.declared.answer.FileRefusal.{FileRefusal}
@@ -13,10 +14,6 @@ use Rattle.dl_base.specs.declared.file.FileCmd.{FileCmd}
 use Rattle.dl_base.specs.declared.file.FileWhat.{FileWhat}
 use Rattle.dl_base.specs.declared.file.FileWhat.TheVariants as whats
 use Rattle.meaning_files.specs.Files.{Files}
-
--- how many files there may be
-abbrev pub most_files : ℕ
-most_files = 65536
 
 -- a user's new file: its owner may write it, and no owner is saved
 abbrev pub new_file : List ℕ → List ℕ → File

@@ -1,5 +1,2 @@
 pub mod Commands
 pub mod Files
-pub mod Hmac
-pub mod Links
-pub mod Tokens

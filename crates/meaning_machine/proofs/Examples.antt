@@ -1,5 +1,6 @@
 -- Some lines of a script, and what they lead to.
-use Rattle.std.proofs.Common.{◌≡◌, true, false, [], ◌∷◌, codes, replicate, Some, None, refl}
+use Rattle.std.proofs.Common.{◌≡◌, ℕ, true, false, List, [], ◌∷◌, ◌++◌, map, take, codes, replicate, Some, None, refl}
+use Rattle.std.specs.List.{flat_map}
 use Rattle.dl_base.specs.declared.answer.Answer.TheVariants as answers
 use Rattle.dl_base.specs.declared.answer.Limit.TheVariants as limits
 use Rattle.dl_base.specs.declared.answer.Refusal.TheVariants as reasons
@@ -111,8 +112,19 @@ not_built = refl
 
 -- the actors of a script, 64 at most
 
+-- 64 names: aa, ab and so on to hh
+abbrev names : List (List ℕ)
+names = flat_map (λ a. map (λ b. a ∷ b ∷ []) (codes "abcdefgh")) (codes "abcdefgh")
+
 abbrev full : Sessions
-full = record { tables = []; actors = codes "A" ∷ replicate 63 (codes "@ann") }
+full = record { tables = []; actors = names }
+
+-- one name less
+abbrev almost_full : Sessions
+almost_full = record { tables = []; actors = take 63 names }
+
+last_actor : by_actor given almost_full (Some (codes "@ann")) (lines.Bad (reasons.Syntax 4)) ≡ (refused (reasons.Syntax 4), record { tables = []; actors = take 63 names ++ codes "@ann" ∷ [] })
+last_actor = refl
 
 new_actor : by_actor given with_t (Some (codes "@ann")) (asks (whats.Delete (codes "/a"))) ≡ (turns.Asks (record { user = codes "ann"; what = whats.Delete (codes "/a") }), record { tables = with_t.tables; actors = codes "A" ∷ codes "@ann" ∷ [] })
 new_actor = refl
@@ -121,7 +133,7 @@ new_actor = refl
 actor_past_the_last : by_actor given full (Some (codes "B")) (lines.Bad (reasons.Syntax 4)) ≡ (refused (reasons.Limit limits.Actors), full)
 actor_past_the_last = refl
 
-known_actor : by_actor given full (Some (codes "@ann")) (lines.Bad (reasons.BadLine 6)) ≡ (refused (reasons.BadLine 6), full)
+known_actor : by_actor given full (Some (codes "hh")) (lines.Bad (reasons.BadLine 6)) ≡ (refused (reasons.BadLine 6), full)
 known_actor = refl
 
 no_actor : by_actor given full None lines.Nothing ≡ (turns.Quiet, full)

@@ -1,7 +1,7 @@
 -- Lines and answers: which lines are quiet, what is printed of values, answers and refusals, and what is told of a script.
-use Rattle.std.proofs.Common.{◌≡◌, ◌+◌, ◌*◌, ◌^◌, ℕ, suc, Bool, true, false, List, [], ◌∷◌, ◌++◌, codes, Some, None, replicate, refl, ap, ◌∙◌, pos, negsuc}
+use Rattle.std.proofs.Common.{◌≡◌, ◌+◌, ◌-◌, ◌*◌, ◌^◌, map, ℕ, suc, Bool, true, false, List, [], ◌∷◌, ◌++◌, codes, Some, None, replicate, refl, ap, ◌∙◌, pos, negsuc}
 use Rattle.std.specs.Cmp.Lexicographic.{slice_cmp, nat_list_cmp_total}
-use Rattle.std.specs.FinMap as map
+use Rattle.std.specs.FinMap as finmap
 use Rattle.std.specs.Fmt.{digits}
 use Rattle.std.specs.Ordering.{nat_cmp}
 use Rattle.dl_base.specs.Name.{name_test}
@@ -10,6 +10,7 @@ use Rattle.dl_base.specs.declared.answer.Answer.TheVariants as answers
 use Rattle.dl_base.specs.declared.answer.ClaimRefusal.TheVariants as claims
 use Rattle.dl_base.specs.declared.answer.FileRefusal.TheVariants as refusals
 use Rattle.dl_base.specs.declared.answer.Limit.TheVariants as limits
+use Rattle.dl_base.specs.declared.answer.Refusal.{Refusal}
 use Rattle.dl_base.specs.declared.answer.Refusal.TheVariants as reasons
 use Rattle.dl_base.specs.declared.answer.RestoreRefusal.TheVariants as restores
 use Rattle.dl_base.specs.declared.answer.Why.TheVariants as whys
@@ -21,7 +22,9 @@ use Rattle.dl_base.specs.declared.file.FileWhat.TheVariants as whats
 use Rattle.dl_base.specs.declared.sql_fault.BadLink.TheVariants as links
 use Rattle.dl_base.specs.declared.sql_fault.SqlFault.TheVariants as faults
 use Rattle.dl_base.specs.declared.step.Phase.TheVariants as phases
+use Rattle.dl_base.specs.declared.statement.Stmt.TheVariants as statements
 use Rattle.dl_base.specs.declared.step.Step.TheVariants as kinds
+use Rattle.dl_base.specs.declared.step.Target.TheVariants as targets
 use Rattle.dl_base.specs.declared.value.LinkNo.{LinkNo}
 use Rattle.dl_base.specs.declared.value.Row.{Row}
 use Rattle.dl_base.specs.declared.value.Value.{Value}
@@ -29,8 +32,8 @@ use Rattle.dl_base.specs.declared.value.Value.TheVariants as values
 use Rattle.meaning_files.specs.Commands.{file_command}
 use Rattle.meaning_files.specs.Files.{Files}
 use Rattle.meaning_script.specs.Lines.{is_quiet, is_user}
-use Rattle.meaning_script.specs.Printed.{cell_text, row_text, line_text, history_text}
-use Rattle.meaning_script.specs.Refusals.{bad_link_number, session_name, refusal_words}
+use Rattle.meaning_script.specs.Printed.{cell_text, row_text, line_text, step_word, history_text}
+use Rattle.meaning_script.specs.Refusals.{session_name, refusal_words, limit_words}
 use Rattle.meaning_script.specs.Steps.{steps, text}
 use Rattle.meaning_script.specs.declared.turn.Turn.{Turn}
 use Rattle.meaning_script.specs.declared.turn.Turn.TheVariants as turns
@@ -136,11 +139,11 @@ row_of_four = refl
 
 -- answers
 
-abbrev first_transaction : ℕ
-first_transaction = 2 ^ 32 + 2
+abbrev a_transaction : ℕ
+a_transaction = 2 ^ 32 + 2
 
-abbrev first_link : LinkNo
-first_link = record { tx = first_transaction; k = 1 }
+abbrev a_link : LinkNo
+a_link = record { tx = a_transaction; k = 1 }
 
 -- a line that is told, and the newline behind it
 abbrev line : List ℕ → List ℕ
@@ -150,9 +153,17 @@ done : line_text [] 1 answers.Done ≡ line (codes "1: ok")
 unfolding line_text digits
 done = refl
 
-begun : line_text [] 3 (answers.Begun first_transaction) ≡ line (codes "3: ok 1-2")
+begun : line_text [] 3 (answers.Begun a_transaction) ≡ line (codes "3: ok 1-2")
 unfolding line_text digits
 begun = refl
+
+begun_last : line_text [] 3 (answers.Begun (2 ^ 64 - 1)) ≡ line (codes "3: ok 4294967295-4294967295")
+unfolding line_text digits
+begun_last = refl
+
+changed_nothing : line_text [] 4 (answers.Changed 0) ≡ line (codes "4: ok 0")
+unfolding line_text digits
+changed_nothing = refl
 
 changed : line_text [] 12 (answers.Changed 2) ≡ line (codes "12: ok 2")
 unfolding line_text digits
@@ -162,6 +173,10 @@ committed : line_text [] 9 (answers.Committed 2) ≡ line (codes "9: ok commit 2
 unfolding line_text digits
 committed = refl
 
+committed_last : line_text [] 7 (answers.Committed 18446744073709551615) ≡ line (codes "7: ok commit 18446744073709551615")
+unfolding line_text digits
+committed_last = refl
+
 abbrev row : List Value → Row
 row values = record { values = values }
 
@@ -169,6 +184,12 @@ rows : line_text [] 4 (answers.Rows (record { rows = row (values.Int (pos 1) ∷
     ≡ line (codes "4: rows 2") ++ line (codes "4| 1 | NULL") ++ line (codes "4| 2 | <http://fs1/a>")
 unfolding line_text digits
 rows = refl
+
+-- a text with a bar, a text of a bar alone, texts of quotes, and a row without a cell
+rows_of_texts : line_text [] 6 (answers.Rows (record { rows = row (values.Text (codes "a|b") ∷ values.Text (codes " | ") ∷ []) ∷ row (values.Text (codes "''") ∷ values.Text (codes "It's Noon") ∷ []) ∷ row [] ∷ [] }))
+    ≡ line (codes "6: rows 3") ++ line (codes "6| 'a|b' | ' | '") ++ line (codes "6| '''''' | 'It''s Noon'") ++ line (codes "6| ")
+unfolding line_text digits
+rows_of_texts = refl
 
 no_rows : line_text [] 4 (answers.Rows (record { rows = [] })) ≡ line (codes "4: rows 0")
 unfolding line_text digits
@@ -190,6 +211,10 @@ list_of_files : line_text [] 6 (answers.Files (file_row (codes "/a") (codes "dlf
 unfolding line_text digits
 list_of_files = refl
 
+empty_file : line_text [] 10 (answers.Files (record { path = codes "/film/2.mpg"; file = record { owner = record { name = codes "dlfm"; writable = false }; bytes = []; before = None } } ∷ [])) ≡ line (codes "10: ok files 1") ++ line (codes "10| /film/2.mpg dlfm off 0")
+unfolding line_text digits
+empty_file = refl
+
 archived : line_text [] 9 (answers.Archived 1) ≡ line (codes "9: ok archived 1")
 unfolding line_text digits
 archived = refl
@@ -202,6 +227,15 @@ restored : line_text [] 7 (answers.Restored 4 (record { table = codes "m"; row =
 unfolding line_text digits
 restored = refl
 
+nothing_lost : line_text [] 13 (answers.Restored 4 []) ≡ line (codes "13: ok commit 4")
+unfolding line_text digits
+nothing_lost = refl
+
+two_lost : line_text [] 14 (answers.Restored 5 (record { table = codes "m"; row = 1; column = codes "f"; path = codes "/a" } ∷ record { table = codes "films"; row = 70; column = codes "reel"; path = codes "/film/1.mpg" } ∷ []))
+    ≡ line (codes "14: ok commit 5") ++ line (codes "14| lost m 1 f /a") ++ line (codes "14| lost films 70 reel /film/1.mpg")
+unfolding line_text digits
+two_lost = refl
+
 resolved : line_text [] 6 (answers.Resolved 0 1) ≡ line (codes "6: ok committed 0 dropped 1")
 unfolding line_text digits
 resolved = refl
@@ -211,6 +245,10 @@ resolved = refl
 refused_line : line_text [] 2 (answers.Refused (reasons.File (refusals.Exists (codes "/a")))) ≡ line (codes "2: refused exists /a")
 unfolding line_text digits
 refused_line = refl
+
+-- the words of refusals that name no session
+abbrev refused_all : List Refusal → List (List ℕ)
+refused_all whys = map (refusal_words []) whys
 
 bad_line : refusal_words [] (reasons.BadLine 65537) ≡ codes "bad line 65537"
 unfolding digits
@@ -243,18 +281,28 @@ bad_link_7 : refusal_words [] (reasons.Sql (faults.BadLink links.Comment)) ≡ c
 unfolding digits
 bad_link_7 = refl
 
-bad_link_numbers : (bad_link_number links.NotUrl ∷ bad_link_number links.Scheme ∷ bad_link_number links.Host ∷ bad_link_number links.Extra ∷ bad_link_number links.Path ∷ bad_link_number links.LinkType ∷ bad_link_number links.Comment ∷ [])
-    ≡ 1 ∷ 2 ∷ 3 ∷ 4 ∷ 5 ∷ 6 ∷ 7 ∷ []
-bad_link_numbers = refl
+-- from 1, in the order in which they are tested
+bad_links : refused_all (map (λ bad. reasons.Sql (faults.BadLink bad)) (links.NotUrl ∷ links.Scheme ∷ links.Host ∷ links.Extra ∷ links.Path ∷ links.LinkType ∷ links.Comment ∷ []))
+    ≡ codes "bad link 1" ∷ codes "bad link 2" ∷ codes "bad link 3" ∷ codes "bad link 4" ∷ codes "bad link 5" ∷ codes "bad link 6" ∷ codes "bad link 7" ∷ []
+unfolding digits
+bad_links = refl
+
+statement_refusals : refused_all (map reasons.Sql (faults.TableExists (codes "t") ∷ faults.NoColumn (codes "c") ∷ faults.Ambiguous (codes "c") ∷ faults.TypeFault ∷ faults.Arity ∷ faults.NullKey (codes "c") ∷ faults.TooLong (codes "c") ∷ faults.Overflow ∷ faults.BadOptions ∷ faults.Limit limits.Rows ∷ []))
+    ≡ codes "table exists t" ∷ codes "no column c" ∷ codes "ambiguous c" ∷ codes "type" ∷ codes "arity" ∷ codes "null c" ∷ codes "too long c" ∷ codes "overflow" ∷ codes "bad options" ∷ codes "limit rows" ∷ []
+statement_refusals = refl
+
+limits_by_name : map limit_words (limits.Columns ∷ limits.Tables ∷ limits.Rows ∷ limits.From ∷ limits.Product ∷ limits.Links ∷ limits.Files ∷ limits.Actors ∷ [])
+    ≡ codes "columns" ∷ codes "tables" ∷ codes "rows" ∷ codes "from" ∷ codes "product" ∷ codes "links" ∷ codes "files" ∷ codes "actors" ∷ []
+limits_by_name = refl
 
 claim_without_a_file : refusal_words [] (reasons.Claim (claims.NoFile (codes "/x"))) ≡ codes "no file /x"
 claim_without_a_file = refl
 
-already_linked : refusal_words [] (reasons.Claim (claims.AlreadyLinked (codes "/a") first_link)) ≡ codes "already linked /a 1-2-1"
+already_linked : refusal_words [] (reasons.Claim (claims.AlreadyLinked (codes "/a") a_link)) ≡ codes "already linked /a 1-2-1"
 unfolding digits
 already_linked = refl
 
-busy : refusal_words [] (reasons.Claim (claims.Busy (codes "/a") first_transaction)) ≡ codes "busy /a 1-2"
+busy : refusal_words [] (reasons.Claim (claims.Busy (codes "/a") a_transaction)) ≡ codes "busy /a 1-2"
 unfolding digits
 busy = refl
 
@@ -266,15 +314,23 @@ doomed : refusal_words [] (reasons.Doomed 1 2) ≡ codes "doomed 1 2"
 unfolding digits
 doomed = refl
 
-linked : refusal_words [] (reasons.File (refusals.Forbidden (codes "/a") first_link whys.Delete)) ≡ codes "linked /a 1-2-1 delete"
+linked : refusal_words [] (reasons.File (refusals.Forbidden (codes "/a") a_link whys.Delete)) ≡ codes "linked /a 1-2-1 delete"
 unfolding digits
 linked = refl
+
+forbidden : refused_all (map (λ why. reasons.File (refusals.Forbidden (codes "/a") a_link why)) (whys.Rename ∷ whys.Write ∷ whys.Chmod ∷ whys.NoToken ∷ []))
+    ≡ codes "linked /a 1-2-1 rename" ∷ codes "linked /a 1-2-1 write" ∷ codes "linked /a 1-2-1 chmod" ∷ codes "linked /a 1-2-1 no token" ∷ []
+unfolding digits
+forbidden = refl
+
+no_such_file : refusal_words [] (reasons.File (refusals.NoFile (codes "/q"))) ≡ codes "no file /q"
+no_such_file = refl
 
 wrong_token : refusal_words [] (reasons.File (refusals.Forbidden (codes "/a") (record { tx = 2 ^ 32 + 5; k = 1 }) whys.WrongToken)) ≡ codes "linked /a 1-5-1 wrong token"
 unfolding digits
 wrong_token = refl
 
-expired : refusal_words [] (reasons.File (refusals.Forbidden (codes "/a") first_link (whys.Expired 160))) ≡ codes "linked /a 1-2-1 expired 160"
+expired : refusal_words [] (reasons.File (refusals.Forbidden (codes "/a") a_link (whys.Expired 160))) ≡ codes "linked /a 1-2-1 expired 160"
 unfolding digits
 expired = refl
 
@@ -291,10 +347,17 @@ in_transaction : refusal_words [] (reasons.InTransaction (2 * 2 ^ 32 + 7)) ≡ c
 unfolding digits
 in_transaction = refl
 
-wrong_phase : refusal_words [] (reasons.WrongPhase phases.Prepared) ≡ codes "phase prepared"
-wrong_phase = refl
+wrong_phases : refused_all (map reasons.WrongPhase (phases.Active ∷ phases.Prepared ∷ phases.Decided ∷ [])) ≡ codes "phase active" ∷ codes "phase prepared" ∷ codes "phase decided" ∷ []
+wrong_phases = refl
 
-not_pending : refusal_words [] (reasons.NotPending first_link) ≡ codes "not pending 1-2-1"
+plain_refusals : refused_all (reasons.NotBuilt ∷ reasons.NoTransaction ∷ []) ≡ codes "not built" ∷ codes "no transaction" ∷ []
+plain_refusals = refl
+
+archive_pending : refusal_words [] (reasons.ArchivePending a_link) ≡ codes "archive pending 1-2-1"
+unfolding digits
+archive_pending = refl
+
+not_pending : refusal_words [] (reasons.NotPending a_link) ≡ codes "not pending 1-2-1"
 unfolding digits
 not_pending = refl
 
@@ -323,11 +386,22 @@ second_session = refl
 no_session : session_name two_names 3 ≡ []
 no_session = refl
 
+session_0 : refusal_words two_names (reasons.SessionBusy 0) ≡ codes "session busy "
+session_0 = refl
+
 -- the history of a race
 
 first_of_a_history : history_text 1 (codes "A") 1 (kinds.Begin 1) ≡ line (codes "# 1 A 1 begin")
 unfolding history_text digits
 first_of_a_history = refl
+
+last_of_a_history : history_text 18446744073709551615 (codes "@bob") 67108864 (kinds.Tick 1) ≡ line (codes "# 18446744073709551615 @bob 67108864 tick")
+unfolding history_text digits
+last_of_a_history = refl
+
+steps_by_name : map step_word (kinds.Begin 1 ∷ kinds.Statement 1 statements.Begin ∷ kinds.Prepare 1 ∷ kinds.Decide 1 ∷ kinds.Finish 1 ∷ kinds.Rollback 1 ∷ kinds.File (record { user = codes "ann"; what = whats.List }) ∷ kinds.Archive a_link ∷ kinds.Backup ∷ kinds.Restore (targets.Backup 1) ∷ kinds.Tick 1 ∷ kinds.CrashManager ∷ kinds.CrashDatabase ∷ kinds.Resolve ∷ [])
+    ≡ codes "begin" ∷ codes "statement" ∷ codes "prepare" ∷ codes "decide" ∷ codes "finish" ∷ codes "rollback" ∷ codes "file" ∷ codes "archive" ∷ codes "backup" ∷ codes "restore" ∷ codes "tick" ∷ codes "crash" ∷ codes "crash" ∷ codes "resolve" ∷ []
+steps_by_name = refl
 
 -- a quiet line, `@ann create /a one`, a refused line and `@ann read /a`: two steps
 
@@ -350,22 +424,22 @@ two_steps : steps lines ≡ create ∷ read ∷ []
 two_steps = refl
 
 abbrev no_files : Files
-no_files = map.empty
+no_files = finmap.empty
 
 abbrev a_file : File
 a_file = record { owner = record { name = codes "ann"; writable = true }; bytes = codes "one"; before = None }
 
 abbrev one_file : Files
-one_file = map.insert no_files (codes "/a") a_file
+one_file = finmap.insert no_files (codes "/a") a_file
 
-none : map.get no_files (codes "/a") ≡ None
-none = map.get-empty (slice_cmp nat_cmp) (codes "/a")
+none : finmap.get no_files (codes "/a") ≡ None
+none = finmap.get-empty (slice_cmp nat_cmp) (codes "/a")
 
-count : map.len no_files ≡ 0
-count = map.len-empty (slice_cmp nat_cmp) File
+count : finmap.len no_files ≡ 0
+count = finmap.len-empty (slice_cmp nat_cmp) File
 
-there : map.get one_file (codes "/a") ≡ Some a_file
-there = map.get-insert nat_list_cmp_total map.empty (codes "/a") a_file (codes "/a")
+there : finmap.get one_file (codes "/a") ≡ Some a_file
+there = finmap.get-insert nat_list_cmp_total finmap.empty (codes "/a") a_file (codes "/a")
 
 created : file_command no_files create ≡ (answers.Done, one_file)
 created = rw (none, count) refl
@@ -406,10 +480,10 @@ abbrev delete : List ℕ → FileCmd
 delete user = by user (whats.Delete (codes "/a"))
 
 abbrev no_file_left : Files
-no_file_left = map.remove one_file (codes "/a")
+no_file_left = finmap.remove one_file (codes "/a")
 
-gone : map.get no_file_left (codes "/a") ≡ None
-gone = map.get-remove nat_list_cmp_total one_file (codes "/a") (codes "/a")
+gone : finmap.get no_file_left (codes "/a") ≡ None
+gone = finmap.get-remove nat_list_cmp_total one_file (codes "/a") (codes "/a")
 
 was_read : file_command one_file read ≡ (answers.Bytes (codes "one"), one_file)
 was_read = rw there refl

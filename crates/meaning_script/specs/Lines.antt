@@ -2,11 +2,8 @@
 use Rattle.std.specs.Prelude.{ℕ, Bool, ◌&&◌, ◌||◌, not, ◌==◌, nat_le, List, length, codes}
 use Rattle.std.specs.Cmp.Lexicographic.{pointwise}
 use Rattle.std.specs.List.{list_all, starts_with}
+use Rattle.dl_base.specs.Limits.{most_actor_name_bytes}
 use Rattle.dl_base.specs.Name.{name_test}
-
--- how many bytes a line may have
-abbrev pub most_bytes : ℕ
-most_bytes = 65536
 
 abbrev pub is_blank : ℕ → Bool
 is_blank b = b == 32 || b == 9
@@ -15,6 +12,6 @@ is_blank b = b == 32 || b == 9
 unfoldable pub is_quiet : List ℕ → Bool
 is_quiet line = list_all is_blank line || starts_with ◌==◌ line (codes "--")
 
--- a user: a name of at most 16 bytes, but not the file manager's own
+-- a user: a name that is not too long, and not the file manager's own
 unfoldable pub is_user : List ℕ → Bool
-is_user name = name_test name && nat_le (length name) 16 && not (pointwise ◌==◌ name (codes "dlfm"))
+is_user name = name_test name && nat_le (length name) most_actor_name_bytes && not (pointwise ◌==◌ name (codes "dlfm"))

@@ -10,7 +10,7 @@ use Rattle.dl_base.specs.declared.step.Step.{Step}
 use Rattle.dl_base.specs.declared.step.Step.TheVariants as kinds
 use Rattle.dl_base.specs.declared.value.Value.{Value}
 use Rattle.dl_base.specs.declared.value.Value.TheVariants as values
-use Rattle.meaning_files.specs.Links.{transaction_text}
+use Rattle.dl_token.specs.Links.{transaction_text}
 use Rattle.meaning_script.specs.Refusals.{refusal_words}
 
 -- Cells.

@@ -12,13 +12,12 @@ use Rattle.dl_base.specs.declared.answer.RestoreRefusal.{RestoreRefusal}
 use Rattle.dl_base.specs.declared.answer.RestoreRefusal.TheVariants as restores
 use Rattle.dl_base.specs.declared.answer.Why.{Why}
 use Rattle.dl_base.specs.declared.answer.Why.TheVariants as whys
-use Rattle.dl_base.specs.declared.sql_fault.BadLink.{BadLink}
-use Rattle.dl_base.specs.declared.sql_fault.BadLink.TheVariants as links
 use Rattle.dl_base.specs.declared.sql_fault.SqlFault.{SqlFault}
 use Rattle.dl_base.specs.declared.sql_fault.SqlFault.TheVariants as faults
 use Rattle.dl_base.specs.declared.step.Phase.{Phase}
 use Rattle.dl_base.specs.declared.step.Phase.TheVariants as phases
-use Rattle.meaning_files.specs.Links.{transaction_text, link_text}
+use Rattle.dl_location.specs.Numbers.{bad_link_number}
+use Rattle.dl_token.specs.Links.{transaction_text, link_text}
 
 abbrev pub limit_words : Limit → List ℕ
 limit_words limits.Columns = codes "columns"
@@ -64,16 +63,6 @@ claim_refusal_words (claims.Busy path tx) = codes "busy " ++ path ++ codes " " +
 abbrev pub restore_refusal_words : RestoreRefusal → List ℕ
 restore_refusal_words (restores.NoTarget number) = codes "no target " ++ decimal number
 restore_refusal_words (restores.InTheWay path) = codes "in the way " ++ path
-
--- the number of what is wrong with a location, a link type or a comment: the place, from 1, at which it is tested
-abbrev pub bad_link_number : BadLink → ℕ
-bad_link_number links.NotUrl = 1
-bad_link_number links.Scheme = 2
-bad_link_number links.Host = 3
-bad_link_number links.Extra = 4
-bad_link_number links.Path = 5
-bad_link_number links.LinkType = 6
-bad_link_number links.Comment = 7
 
 -- no statement is answered that there is no memory; the word is there so that each fault has one
 abbrev pub sql_fault_words : SqlFault → List ℕ

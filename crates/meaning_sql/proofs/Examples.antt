@@ -1,5 +1,5 @@
 -- Small columns, values and groups: what SQL says of them.
-use Rattle.std.proofs.Common.{◌≡◌, ℕ, true, false, List, [], ◌∷◌, codes, replicate, Option, Some, None, Result, Ok, Err, refl, pos, negsuc}
+use Rattle.std.proofs.Common.{◌≡◌, ℕ, true, false, List, [], ◌∷◌, codes, replicate, Option, Some, None, Result, Ok, Err, refl, sym, ap, ◌∙◌, pos, negsuc}
 use Rattle.dl_base.specs.declared.column.Column.{Column}
 use Rattle.dl_base.specs.declared.column.ColumnRule.TheVariants as rules
 use Rattle.dl_base.specs.declared.column.Kind.{Kind}
@@ -11,7 +11,9 @@ use Rattle.dl_base.specs.declared.column.WriteBy.TheVariants as write
 use Rattle.dl_base.specs.declared.sql_fault.BadLink.TheVariants as bad
 use Rattle.dl_base.specs.declared.sql_fault.SqlFault.{SqlFault}
 use Rattle.dl_base.specs.declared.sql_fault.SqlFault.TheVariants as faults
+use Rattle.dl_base.specs.declared.statement.Expr.{Expr, fold-roll-Expr}
 use Rattle.dl_base.specs.declared.statement.Expr.TheOpen as level
+use Rattle.dl_base.specs.declared.statement.Expr.TheVariants as expressions
 use Rattle.dl_base.specs.declared.statement.Fold.TheVariants as aggregates
 use Rattle.dl_base.specs.declared.statement.Op.TheVariants as ops
 use Rattle.dl_base.specs.declared.statement.Part.TheVariants as parts
@@ -22,13 +24,14 @@ use Rattle.dl_base.specs.declared.value.Value.TheVariants as values
 use Rattle.meaning_sql.specs.declared.Context.{Context}
 use Rattle.meaning_sql.specs.declared.SqlType.{SqlType}
 use Rattle.meaning_sql.specs.declared.SqlType.TheVariants as types
-use Rattle.meaning_sql.specs.declared.Standing.{Standing}
-use Rattle.meaning_sql.specs.declared.Standing.TheVariants as standing
+use Rattle.meaning_sql.specs.declared.AggregateScope.{AggregateScope}
+use Rattle.meaning_sql.specs.declared.AggregateScope.TheVariants as scope
 use Rattle.meaning_sql.specs.Columns.{Columns, place_of, options_at}
+use Rattle.meaning_sql.specs.Conditions.{is_true, holds_all}
 use Rattle.meaning_sql.specs.Datalinks.{linked, is_url, comment_text, datalink, shown, accessed}
 use Rattle.meaning_sql.specs.Operators.{truth_of, of_truth, not3, negated, binary, is_null, gathered}
 use Rattle.meaning_sql.specs.Types.{type_at}
-use Rattle.meaning_sql.specs.Values.{cell, Said, plain, said_at}
+use Rattle.meaning_sql.specs.Values.{cell, Denotation, plain, denotation_at, meaning}
 
 -- which column a reference means
 
@@ -190,7 +193,7 @@ overflow_before_a_later_row = refl
 -- types; operands at a place say theirs, or the first breach
 
 abbrev Typed : Type 0
-Typed = Standing → Result SqlType SqlFault
+Typed = AggregateScope → Result SqlType SqlFault
 
 abbrev of : SqlType → Typed
 of t s = Ok t
@@ -198,47 +201,47 @@ of t s = Ok t
 abbrev of_none : ℕ → Typed
 of_none letter s = Err (faults.NoColumn (letter ∷ []))
 
-abbrev by_first : Standing
-by_first = standing.Grouped (0 ∷ [])
+abbrev by_first : AggregateScope
+by_first = scope.Grouped (0 ∷ [])
 
-left_breach_first : type_at three (level.Binary ops.Add (of_none 120) (of_none 121)) standing.Row ≡ Err (faults.NoColumn (120 ∷ []))
+left_breach_first : type_at three (level.Binary ops.Add (of_none 120) (of_none 121)) scope.Row ≡ Err (faults.NoColumn (120 ∷ []))
 left_breach_first = refl
 
-right_breach_before_the_operator : type_at three (level.Binary ops.Add (of types.Text) (of_none 121)) standing.Row ≡ Err (faults.NoColumn (121 ∷ []))
+right_breach_before_the_operator : type_at three (level.Binary ops.Add (of types.Text) (of_none 121)) scope.Row ≡ Err (faults.NoColumn (121 ∷ []))
 right_breach_before_the_operator = refl
 
-null_is_compared_with_text : type_at three (level.Binary ops.Eq (of types.Null) (of types.Text)) standing.Row ≡ Ok types.Truth
+null_is_compared_with_text : type_at three (level.Binary ops.Eq (of types.Null) (of types.Text)) scope.Row ≡ Ok types.Truth
 null_is_compared_with_text = refl
 
-null_is_a_truth : type_at three (level.Binary ops.And (of types.Truth) (of types.Null)) standing.Row ≡ Ok types.Truth
+null_is_a_truth : type_at three (level.Binary ops.And (of types.Truth) (of types.Null)) scope.Row ≡ Ok types.Truth
 null_is_a_truth = refl
 
-part_of_null : type_at three (level.Access parts.Path (of types.Null)) standing.Row ≡ Ok types.Text
+part_of_null : type_at three (level.Access parts.Path (of types.Null)) scope.Row ≡ Ok types.Text
 part_of_null = refl
 
-number_with_text : type_at three (level.Binary ops.Lt (of types.Int) (of types.Text)) standing.Row ≡ Err faults.TypeFault
+number_with_text : type_at three (level.Binary ops.Lt (of types.Int) (of types.Text)) scope.Row ≡ Err faults.TypeFault
 number_with_text = refl
 
-datalinks_are_not_compared : type_at three (level.Binary ops.Eq (of types.Link) (of types.Link)) standing.Row ≡ Err faults.TypeFault
+datalinks_are_not_compared : type_at three (level.Binary ops.Eq (of types.Link) (of types.Link)) scope.Row ≡ Err faults.TypeFault
 datalinks_are_not_compared = refl
 
-truths_are_not_compared : type_at three (level.Binary ops.Eq (of types.Truth) (of types.Truth)) standing.Row ≡ Err faults.TypeFault
+truths_are_not_compared : type_at three (level.Binary ops.Eq (of types.Truth) (of types.Truth)) scope.Row ≡ Err faults.TypeFault
 truths_are_not_compared = refl
 
-truth_is_null : type_at three (level.IsNull (of types.Truth) true) standing.Row ≡ Err faults.TypeFault
+truth_is_null : type_at three (level.IsNull (of types.Truth) true) scope.Row ≡ Err faults.TypeFault
 truth_is_null = refl
 
-sum_of_texts : type_at three (level.Aggregate aggregates.Sum (of types.Text)) standing.Item ≡ Err faults.TypeFault
+sum_of_texts : type_at three (level.Aggregate aggregates.Sum (of types.Text)) scope.Item ≡ Err faults.TypeFault
 sum_of_texts = refl
 
-greatest_of_texts : type_at three (level.Aggregate aggregates.Max (of types.Text)) standing.Item ≡ Ok types.Text
+greatest_of_texts : type_at three (level.Aggregate aggregates.Max (of types.Text)) scope.Item ≡ Ok types.Text
 greatest_of_texts = refl
 
 -- before its operand is looked at
-aggregate_in_where : type_at three (level.Aggregate aggregates.Sum (of_none 120)) standing.Row ≡ Err faults.TypeFault
+aggregate_in_where : type_at three (level.Aggregate aggregates.Sum (of_none 120)) scope.Row ≡ Err faults.TypeFault
 aggregate_in_where = refl
 
-aggregate_in_aggregate : type_at three (level.Aggregate aggregates.Sum (type_at three level.CountAll)) standing.Item ≡ Err faults.TypeFault
+aggregate_in_aggregate : type_at three (level.Aggregate aggregates.Sum (type_at three level.CountAll)) scope.Item ≡ Err faults.TypeFault
 aggregate_in_aggregate = refl
 
 grouping_column : type_at three (level.Column (named (Some (116 ∷ [])) 97)) by_first ≡ Ok types.Int
@@ -298,7 +301,7 @@ at_moment = record { server = codes "fs1"; key = []; now = 100; life = 60; tx = 
 abbrev read_by_database : Options
 read_by_database = record { read = read.Db; write = write.Blocked; recovery = false; unlink = unlink.Restore }
 
-abbrev says : Result Value SqlFault → Said
+abbrev says : Result Value SqlFault → Denotation
 says x = plain (λ row. x)
 
 abbrev first_row : Row
@@ -325,29 +328,42 @@ unfolding accessed shown
 no_link_no_token = refl
 
 -- all arguments are evaluated before DLVALUE looks at one
-refused_beside_null_location : (said_at three at_moment [] (level.Dlvalue2 (says (Ok values.Null)) (says refused))).at first_row ≡ refused
+refused_beside_null_location : (denotation_at three at_moment [] (level.Dlvalue2 (says (Ok values.Null)) (says refused))).at first_row ≡ refused
 unfolding datalink
 refused_beside_null_location = refl
 
-null_is_null : (said_at three at_moment [] (level.IsNull (says (Ok values.Null)) true)).at first_row ≡ Ok yes
+null_is_null : (denotation_at three at_moment [] (level.IsNull (says (Ok values.Null)) true)).at first_row ≡ Ok yes
 unfolding of_truth is_null
 null_is_null = refl
 
-null_is_not_null : (said_at three at_moment [] (level.IsNull (says (Ok values.Null)) false)).at first_row ≡ Ok no
+null_is_not_null : (denotation_at three at_moment [] (level.IsNull (says (Ok values.Null)) false)).at first_row ≡ Ok no
 unfolding of_truth is_null
 null_is_not_null = refl
 
-cell_of_a_column : (said_at three at_moment [] (level.Column (named None 98))).at first_row ≡ Ok (values.Text (codes "x"))
+cell_of_a_column : (denotation_at three at_moment [] (level.Column (named None 98))).at first_row ≡ Ok (values.Text (codes "x"))
 unfolding place_of cell
 cell_of_a_column = refl
 
-count_of_rows : (said_at three at_moment (first_row ∷ first_row ∷ []) level.CountAll).at first_row ≡ Ok (values.Int (pos 2))
+count_of_rows : (denotation_at three at_moment (first_row ∷ first_row ∷ []) level.CountAll).at first_row ≡ Ok (values.Int (pos 2))
 count_of_rows = refl
 
-sum_over_the_group : (said_at three at_moment (first_row ∷ first_row ∷ []) (level.Aggregate aggregates.Sum (said_at three at_moment [] (level.Column (named (Some (116 ∷ [])) 97))))).at first_row ≡ Ok (values.Int (pos 14))
+sum_over_the_group : (denotation_at three at_moment (first_row ∷ first_row ∷ []) (level.Aggregate aggregates.Sum (denotation_at three at_moment [] (level.Column (named (Some (116 ∷ [])) 97))))).at first_row ≡ Ok (values.Int (pos 14))
 unfolding gathered place_of cell
 sum_over_the_group = refl
 
-options_of_a_column : (said_at (column 116 100 (kinds.Linked read_by_database) ∷ []) at_moment [] (level.Column (named None 100))).under ≡ Some read_by_database
+options_of_a_column : (denotation_at (column 116 100 (kinds.Linked read_by_database) ∷ []) at_moment [] (level.Column (named None 100))).under ≡ Some read_by_database
 unfolding options_at place_of
 options_of_a_column = refl
+
+-- conditions
+
+unknown_is_not_true : is_true values.Null ≡ false
+unfolding truth_of
+unknown_is_not_true = refl
+
+null_value : (columns : Columns) (context : Context) (at : Row) → meaning columns context [] expressions.Null at ≡ Ok values.Null
+null_value columns context at = ap (λ (e : Expr). meaning columns context [] e at) (sym expressions.rolls-Null) ∙ ap (λ (denotation : Denotation). denotation.at at) (fold-roll-Expr Denotation (denotation_at columns context []) level.Null)
+
+unknown_row_left_out : (later : Expr) → holds_all [] at_moment (expressions.Null ∷ later ∷ []) first_row ≡ Ok false
+unfolding truth_of
+unknown_row_left_out later = rw (null_value [] at_moment first_row) refl

@@ -15,7 +15,7 @@ use Rattle.dl_base.specs.declared.statement.Part.TheVariants as parts
 use Rattle.dl_location.specs.declared.accessor.Accessor.TheVariants as accessors
 use Rattle.dl_location.specs.Accessors.{accessor_text}
 use Rattle.dl_location.specs.Location.{location}
-use Rattle.meaning_files.specs.Tokens.{with_token, token, expiry_after}
+use Rattle.dl_token.specs.Tokens.{with_token, token, expiry_after}
 use Rattle.meaning_tables.specs.OptionRows.{is_db}
 use Rattle.meaning_sql.specs.declared.Context.{Context}
 

@@ -1,4 +1,5 @@
 pub mod Columns
+pub mod Conditions
 pub mod Datalinks
 pub mod Faults
 pub mod Fitting

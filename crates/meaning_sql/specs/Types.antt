@@ -13,8 +13,8 @@ use Rattle.dl_base.specs.declared.statement.Expr.{Expr, Expr-F, fold-Expr}
 use Rattle.dl_base.specs.declared.statement.Expr.TheOpen as level
 use Rattle.meaning_sql.specs.declared.SqlType.{SqlType}
 use Rattle.meaning_sql.specs.declared.SqlType.TheVariants as types
-use Rattle.meaning_sql.specs.declared.Standing.{Standing}
-use Rattle.meaning_sql.specs.declared.Standing.TheVariants as standing
+use Rattle.meaning_sql.specs.declared.AggregateScope.{AggregateScope}
+use Rattle.meaning_sql.specs.declared.AggregateScope.TheVariants as scope
 use Rattle.meaning_sql.specs.Columns.{Columns, place_of, kind_at}
 use Rattle.meaning_sql.specs.Faults.{◌>>=◌, typed}
 
@@ -81,22 +81,22 @@ aggregate_type aggregates.Sum t = typed (is_int t) types.Int
 aggregate_type aggregates.Min t = typed (is_int t || is_text t) t
 aggregate_type aggregates.Max t = typed (is_int t || is_text t) t
 
-abbrev pub takes_aggregate : Standing → Bool
-takes_aggregate standing.Row = false
-takes_aggregate standing.Item = true
-takes_aggregate (standing.Grouped places) = true
+abbrev pub takes_aggregate : AggregateScope → Bool
+takes_aggregate scope.Row = false
+takes_aggregate scope.Item = true
+takes_aggregate (scope.Grouped places) = true
 
 -- the column at this place may stand outside an aggregate
-abbrev pub takes_column : Standing → ℕ → Bool
-takes_column standing.Row i = true
-takes_column standing.Item i = true
-takes_column (standing.Grouped places) i = list_any (λ j. j == i) places
+abbrev pub takes_column : AggregateScope → ℕ → Bool
+takes_column scope.Row i = true
+takes_column scope.Item i = true
+takes_column (scope.Grouped places) i = list_any (λ j. j == i) places
 
-abbrev pub column_type : Columns → Ref → Standing → Result SqlType SqlFault
+abbrev pub column_type : Columns → Ref → AggregateScope → Result SqlType SqlFault
 column_type columns r s = place_of columns r >>= λ i. typed (takes_column s i) (kind_type (kind_at columns i))
 
 -- one level of an expression, whose operands say their types at a standing
-abbrev pub type_at : Columns → Expr-F (Standing → Result SqlType SqlFault) → Standing → Result SqlType SqlFault
+abbrev pub type_at : Columns → Expr-F (AggregateScope → Result SqlType SqlFault) → AggregateScope → Result SqlType SqlFault
 type_at columns (level.Number z) s = Ok types.Int
 type_at columns (level.Literal t) s = Ok types.Text
 type_at columns level.Null s = Ok types.Null
@@ -106,12 +106,12 @@ type_at columns (level.Minus a) s = a s >>= λ t. typed (is_int t) types.Int
 type_at columns (level.Binary op a b) s = a s >>= λ t. b s >>= λ u. binary_type op t u
 type_at columns (level.IsNull a is) s = a s >>= λ t. typed (is_cell t) types.Truth
 type_at columns level.CountAll s = typed (takes_aggregate s) types.Int
-type_at columns (level.Aggregate f a) s = typed (takes_aggregate s) standing.Row >>= λ r. a r >>= aggregate_type f
+type_at columns (level.Aggregate f a) s = typed (takes_aggregate s) scope.Row >>= λ r. a r >>= aggregate_type f
 type_at columns (level.Dlvalue1 a) s = a s >>= λ t. typed (is_text t) types.Link
 type_at columns (level.Dlvalue2 a b) s = a s >>= λ t. b s >>= λ u. typed (is_text t && is_text u) types.Link
 type_at columns (level.Dlvalue3 a b c) s = a s >>= λ t. b s >>= λ u. c s >>= λ v. typed (is_text t && is_text u && is_text v) types.Link
 type_at columns (level.Access part a) s = a s >>= λ t. typed (is_link t) types.Text
 
 -- the type of an expression, or the first breach
-abbrev pub type_of : Columns → Standing → Expr → Result SqlType SqlFault
-type_of columns s e = fold-Expr (Standing → Result SqlType SqlFault) (type_at columns) e s
+abbrev pub type_of : Columns → AggregateScope → Expr → Result SqlType SqlFault
+type_of columns s e = fold-Expr (AggregateScope → Result SqlType SqlFault) (type_at columns) e s

@@ -23,7 +23,7 @@ pub enum SqlType {
 
 /// What may stand at the place of an expression.
 #[derive(Drop)]
-pub enum Standing {
+pub enum AggregateScope {
     /// Columns, and no aggregate, as in WHERE.
     Row,
     /// Columns and aggregates, as in an item.

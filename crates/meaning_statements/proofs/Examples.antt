@@ -1,5 +1,5 @@
 -- Small tables: what statements make of them, and what queries answer.
-use Rattle.std.proofs.Common.{◌≡◌, ℕ, Bool, true, false, List, [], ◌∷◌, codes, Option, Some, None, Result, Ok, Err, refl, sym, ap, ◌∙◌, pos}
+use Rattle.std.proofs.Common.{◌≡◌, ℕ, ◌++◌, Bool, true, false, List, [], ◌∷◌, length, codes, Option, Some, None, Result, Ok, Err, refl, sym, ap, ◌∙◌, pos}
 use Rattle.dl_base.specs.declared.answer.Limit.TheVariants as limits
 use Rattle.dl_base.specs.declared.column.Column.{Column}
 use Rattle.dl_base.specs.declared.column.ColumnRule.{ColumnRule}
@@ -31,21 +31,20 @@ use Rattle.dl_base.specs.declared.value.Value.TheVariants as values
 use Rattle.meaning_sql.specs.declared.Context.{Context}
 use Rattle.meaning_sql.specs.declared.SqlType.{SqlType}
 use Rattle.meaning_sql.specs.declared.SqlType.TheVariants as types
-use Rattle.meaning_sql.specs.declared.Standing.{Standing}
-use Rattle.meaning_sql.specs.declared.Standing.TheVariants as standing
+use Rattle.meaning_sql.specs.declared.AggregateScope.{AggregateScope}
+use Rattle.meaning_sql.specs.declared.AggregateScope.TheVariants as scope
 use Rattle.meaning_sql.specs.Columns.{Columns, place_of}
 use Rattle.meaning_sql.specs.Faults.{◌>>=◌}
-use Rattle.meaning_sql.specs.Operators.{truth_of, binary}
+use Rattle.meaning_sql.specs.Operators.{binary}
 use Rattle.meaning_sql.specs.Types.{type_of, type_at, binary_type}
-use Rattle.meaning_sql.specs.Values.{Said, said_at, meaning, cell}
+use Rattle.meaning_sql.specs.Values.{Denotation, denotation_at, meaning, cell}
 use Rattle.meaning_statements.specs.Assigning.{stored, stored_row}
-use Rattle.meaning_statements.specs.Changing.{change, create, drop_table, insert, inserted_row, update, updated_row, delete, set_places, arranged, with_cells, keys_hold}
-use Rattle.meaning_statements.specs.Conditions.{holds_all}
+use Rattle.meaning_statements.specs.Changing.{change, has_room, create, drop_table, insert, inserted_row, update, updated_row, delete, set_places, arranged, with_cells, keys_hold}
 use Rattle.meaning_statements.specs.Creating.{columns_made, db2_options}
 use Rattle.meaning_statements.specs.Lists.{product, sorted}
-use Rattle.meaning_statements.specs.Selecting.{has_aggregate, aggregate_at, star, units, is_before, group_place, key_place, key_of, select}
-use Rattle.meaning_statements.specs.Sources.{no_row, sources_of}
-use Rattle.meaning_tables.specs.Tables.{Rows, Tables}
+use Rattle.meaning_statements.specs.Selecting.{are_few, has_aggregate, aggregate_at, star, units, is_before, group_place, key_place, key_of, select}
+use Rattle.meaning_statements.specs.Sources.{Source, no_row, sources_of}
+use Rattle.meaning_tables.specs.Tables.{Rows, Tables, new_table, table_of}
 
 -- names of one letter: t is 116, k 107, v 118, d 100
 
@@ -75,6 +74,9 @@ rows_of rows = record { version = 0; columns = keyed ∷ texts ∷ []; next = 4;
 
 abbrev tables : List (ℕ × Row) → Tables
 tables rows = (116 ∷ [], rows_of rows) ∷ []
+
+abbrev named : Rows → Source
+named t = record { name = 116 ∷ []; table = t }
 
 -- a datalink to the file of one letter
 abbrev link : ℕ → Option LinkNo → Value
@@ -118,6 +120,10 @@ no_row_of_options = refl
 
 selective_integrity : columns_made [] false (written 100 (defs.Chosen integrity.Selective read.Fs write.Fs false unlink.Nothing) 0 0 ∷ []) ≡ Err faults.BadOptions
 selective_integrity = refl
+
+table_made : change [] (statements.CreateTable (116 ∷ []) (written 100 defs.Db2 0 0 ∷ [])) at_moment 1 ≡ Ok (record { tables = (116 ∷ [], record { version = 0; columns = linked ∷ []; next = 1; rows = [] }) ∷ []; next = 1; count = 0 })
+unfolding create
+table_made = refl
 
 dropped_in_vain : change [] (statements.DropTable (116 ∷ [])) at_moment 1 ≡ Err (faults.NoTable (116 ∷ []))
 unfolding drop_table
@@ -171,6 +177,32 @@ no_control_no_number : stored 9 1 (column 100 kinds.Free rules.Plain) values.Nul
 unfolding stored
 no_control_no_number = refl
 
+-- the bounds
+
+last_row : (rows : List (ℕ × Row)) → length rows ≡ 999999 → has_room (rows_of rows) 1 ≡ true
+last_row rows h = rw h refl
+
+row_past_the_last : (rows : List (ℕ × Row)) → length rows ≡ 1000000 → has_room (rows_of rows) 1 ≡ false
+row_past_the_last rows h = rw h refl
+
+ten_million_combined_rows : (a b : Rows) → length a.rows ≡ 10 → length b.rows ≡ 1000000 → are_few (named a ∷ named b ∷ []) ≡ true
+ten_million_combined_rows a b h k = rw (h, k) refl
+
+one_combined_row_more : (a b : Rows) → length a.rows ≡ 11 → length b.rows ≡ 909091 → are_few (named a ∷ named b ∷ []) ≡ false
+one_combined_row_more a b h k = rw (h, k) refl
+
+table_past_the_last : (others : Tables) → table_of others (116 ∷ []) ≡ None → length others ≡ 256 → create others (116 ∷ []) [] 1 ≡ Err (faults.Limit limits.Tables)
+unfolding create
+table_past_the_last others absent h = rw (absent, h) refl
+
+last_table : (others : Tables) → table_of others (116 ∷ []) ≡ None → length others ≡ 255 → create others (116 ∷ []) [] 1 ≡ Ok (record { tables = others ++ (116 ∷ [], new_table []) ∷ []; next = 1; count = 0 })
+unfolding create
+last_table others absent h = rw (absent, h) refl
+
+column_past_the_last : (columns : List ColumnDef) → length columns ≡ 65 → create [] (116 ∷ []) columns 1 ≡ Err (faults.Limit limits.Columns)
+unfolding create
+column_past_the_last columns h = rw h refl
+
 -- columns that are named, and cells by them
 
 not_named_is_null : arranged 0 (keyed ∷ texts ∷ linked ∷ []) (2 ∷ 0 ∷ []) (row (link 97 None ∷ int 7 ∷ [])) ≡ int 7 ∷ values.Null ∷ link 97 None ∷ []
@@ -212,26 +244,23 @@ k = record { table = None; column = 107 ∷ [] }
 abbrev three_less_k : Expr
 three_less_k = expressions.Binary ops.Sub (expressions.Number (pos 3)) (expressions.Column k)
 
-number_type : (columns : Columns) (s : Standing) (n : ℕ) → type_of columns s (expressions.Number (pos n)) ≡ Ok types.Int
-number_type columns s n = ap (λ (e : Expr). type_of columns s e) (sym (expressions.rolls-Number (pos n))) ∙ ap (λ f. f s) (fold-roll-Expr (Standing → Result SqlType SqlFault) (type_at columns) (level.Number (pos n)))
+number_type : (columns : Columns) (s : AggregateScope) (n : ℕ) → type_of columns s (expressions.Number (pos n)) ≡ Ok types.Int
+number_type columns s n = ap (λ (e : Expr). type_of columns s e) (sym (expressions.rolls-Number (pos n))) ∙ ap (λ f. f s) (fold-roll-Expr (AggregateScope → Result SqlType SqlFault) (type_at columns) (level.Number (pos n)))
 
-column_type : (columns : Columns) (s : Standing) (r : Ref) → type_of columns s (expressions.Column r) ≡ type_at columns (level.Column r) s
-column_type columns s r = ap (λ (e : Expr). type_of columns s e) (sym (expressions.rolls-Column r)) ∙ ap (λ f. f s) (fold-roll-Expr (Standing → Result SqlType SqlFault) (type_at columns) (level.Column r))
+column_type : (columns : Columns) (s : AggregateScope) (r : Ref) → type_of columns s (expressions.Column r) ≡ type_at columns (level.Column r) s
+column_type columns s r = ap (λ (e : Expr). type_of columns s e) (sym (expressions.rolls-Column r)) ∙ ap (λ f. f s) (fold-roll-Expr (AggregateScope → Result SqlType SqlFault) (type_at columns) (level.Column r))
 
-type_of_two : (columns : Columns) (s : Standing) (op : Op) (a b : Expr) → type_of columns s (expressions.Binary op a b) ≡ (type_of columns s a >>= λ t. type_of columns s b >>= λ u. binary_type op t u)
-type_of_two columns s op a b = ap (λ (e : Expr). type_of columns s e) (sym (expressions.rolls-Binary op a b)) ∙ ap (λ f. f s) (fold-roll-Expr (Standing → Result SqlType SqlFault) (type_at columns) (level.Binary op a b))
+type_of_two : (columns : Columns) (s : AggregateScope) (op : Op) (a b : Expr) → type_of columns s (expressions.Binary op a b) ≡ (type_of columns s a >>= λ t. type_of columns s b >>= λ u. binary_type op t u)
+type_of_two columns s op a b = ap (λ (e : Expr). type_of columns s e) (sym (expressions.rolls-Binary op a b)) ∙ ap (λ f. f s) (fold-roll-Expr (AggregateScope → Result SqlType SqlFault) (type_at columns) (level.Binary op a b))
 
 number_value : (columns : Columns) (context : Context) (at : Row) (n : ℕ) → meaning columns context [] (expressions.Number (pos n)) at ≡ Ok (int n)
-number_value columns context at n = ap (λ (e : Expr). meaning columns context [] e at) (sym (expressions.rolls-Number (pos n))) ∙ ap (λ (said : Said). said.at at) (fold-roll-Expr Said (said_at columns context []) (level.Number (pos n)))
-
-null_value : (columns : Columns) (context : Context) (at : Row) → meaning columns context [] expressions.Null at ≡ Ok values.Null
-null_value columns context at = ap (λ (e : Expr). meaning columns context [] e at) (sym expressions.rolls-Null) ∙ ap (λ (said : Said). said.at at) (fold-roll-Expr Said (said_at columns context []) level.Null)
+number_value columns context at n = ap (λ (e : Expr). meaning columns context [] e at) (sym (expressions.rolls-Number (pos n))) ∙ ap (λ (denotation : Denotation). denotation.at at) (fold-roll-Expr Denotation (denotation_at columns context []) (level.Number (pos n)))
 
 column_value : (columns : Columns) (context : Context) (at : Row) (r : Ref) → meaning columns context [] (expressions.Column r) at ≡ (place_of columns r >>= λ i. Ok (cell at i))
-column_value columns context at r = ap (λ (e : Expr). meaning columns context [] e at) (sym (expressions.rolls-Column r)) ∙ ap (λ (said : Said). said.at at) (fold-roll-Expr Said (said_at columns context []) (level.Column r))
+column_value columns context at r = ap (λ (e : Expr). meaning columns context [] e at) (sym (expressions.rolls-Column r)) ∙ ap (λ (denotation : Denotation). denotation.at at) (fold-roll-Expr Denotation (denotation_at columns context []) (level.Column r))
 
 value_of_two : (columns : Columns) (context : Context) (at : Row) (op : Op) (a b : Expr) → meaning columns context [] (expressions.Binary op a b) at ≡ (meaning columns context [] a at >>= λ x. binary op x (meaning columns context [] b at))
-value_of_two columns context at op a b = ap (λ (e : Expr). meaning columns context [] e at) (sym (expressions.rolls-Binary op a b)) ∙ ap (λ (said : Said). said.at at) (fold-roll-Expr Said (said_at columns context []) (level.Binary op a b))
+value_of_two columns context at op a b = ap (λ (e : Expr). meaning columns context [] e at) (sym (expressions.rolls-Binary op a b)) ∙ ap (λ (denotation : Denotation). denotation.at at) (fold-roll-Expr Denotation (denotation_at columns context []) (level.Binary op a b))
 
 -- INSERT and UPDATE
 
@@ -249,11 +278,23 @@ keys_of next rows = (116 ∷ [], record { version = 0; columns = keyed ∷ []; n
 
 two_inserted : change (keys_of 1 []) (statements.Insert (116 ∷ []) (Some ((107 ∷ []) ∷ [])) ((seven ∷ []) ∷ (expressions.Number (pos 8) ∷ []) ∷ [])) at_moment 1 ≡ Ok (record { tables = keys_of 3 ((1, row (int 7 ∷ [])) ∷ (2, row (int 8 ∷ [])) ∷ []); next = 1; count = 2 })
 unfolding insert inserted_row stored cell
-two_inserted = rw (number_type [] standing.Row 7, number_type [] standing.Row 8, number_value [] at_moment no_row 7, number_value [] at_moment no_row 8) refl
+two_inserted = rw (number_type [] scope.Row 7, number_type [] scope.Row 8, number_value [] at_moment no_row 7, number_value [] at_moment no_row 8) refl
 
 one_key_twice : change (keys_of 1 []) (statements.Insert (116 ∷ []) None ((seven ∷ []) ∷ (seven ∷ []) ∷ [])) at_moment 1 ≡ Err (faults.DupKey 2)
 unfolding insert inserted_row stored cell
-one_key_twice = rw (number_type [] standing.Row 7, number_value [] at_moment no_row 7) refl
+one_key_twice = rw (number_type [] scope.Row 7, number_value [] at_moment no_row 7) refl
+
+key_that_stood : change (keys_of 2 ((1, row (int 7 ∷ [])) ∷ [])) (statements.Insert (116 ∷ []) None ((seven ∷ []) ∷ [])) at_moment 1 ≡ Err (faults.DupKey 2)
+unfolding insert inserted_row stored cell
+key_that_stood = rw (number_type [] scope.Row 7, number_value [] at_moment no_row 7) refl
+
+last_row_number : change (keys_of 9223372036854775807 []) (statements.Insert (116 ∷ []) None ((seven ∷ []) ∷ [])) at_moment 1 ≡ Ok (record { tables = keys_of 9223372036854775808 ((9223372036854775807, row (int 7 ∷ [])) ∷ []); next = 1; count = 1 })
+unfolding insert inserted_row stored cell
+last_row_number = rw (number_type [] scope.Row 7, number_value [] at_moment no_row 7) refl
+
+row_number_past_the_last : change (keys_of 9223372036854775808 []) (statements.Insert (116 ∷ []) None ((seven ∷ []) ∷ [])) at_moment 1 ≡ Err (faults.Limit limits.Rows)
+unfolding insert inserted_row stored cell
+row_number_past_the_last = rw (number_type [] scope.Row 7, number_value [] at_moment no_row 7) refl
 
 set_twice : change (tables []) (statements.Update (116 ∷ []) ((107 ∷ [], seven) ∷ (107 ∷ [], seven) ∷ []) None) at_moment 1 ≡ Err (faults.Ambiguous (107 ∷ []))
 unfolding update
@@ -263,9 +304,9 @@ set_twice = refl
 swap_keys : change (keys_of 3 ((1, row (int 1 ∷ [])) ∷ (2, row (int 2 ∷ [])) ∷ [])) (statements.Update (116 ∷ []) ((107 ∷ [], three_less_k) ∷ []) None) at_moment 1 ≡ Ok (record { tables = keys_of 3 ((1, row (int 2 ∷ [])) ∷ (2, row (int 1 ∷ [])) ∷ []); next = 1; count = 2 })
 unfolding update updated_row stored cell place_of binary
 swap_keys = rw (
-  type_of_two ((116 ∷ [], keyed) ∷ []) standing.Row ops.Sub (expressions.Number (pos 3)) (expressions.Column k),
-  number_type ((116 ∷ [], keyed) ∷ []) standing.Row 3,
-  column_type ((116 ∷ [], keyed) ∷ []) standing.Row k,
+  type_of_two ((116 ∷ [], keyed) ∷ []) scope.Row ops.Sub (expressions.Number (pos 3)) (expressions.Column k),
+  number_type ((116 ∷ [], keyed) ∷ []) scope.Row 3,
+  column_type ((116 ∷ [], keyed) ∷ []) scope.Row k,
   value_of_two ((116 ∷ [], keyed) ∷ []) at_moment (row (int 1 ∷ [])) ops.Sub (expressions.Number (pos 3)) (expressions.Column k),
   value_of_two ((116 ∷ [], keyed) ∷ []) at_moment (row (int 2 ∷ [])) ops.Sub (expressions.Number (pos 3)) (expressions.Column k),
   number_value ((116 ∷ [], keyed) ∷ []) at_moment (row (int 1 ∷ [])) 3,
@@ -298,10 +339,6 @@ under_an_alias = refl
 
 first_source_outermost : product (((int 1 ∷ []) ∷ (int 2 ∷ []) ∷ []) ∷ ((int 3 ∷ []) ∷ (int 4 ∷ []) ∷ []) ∷ []) ≡ (int 1 ∷ int 3 ∷ []) ∷ (int 1 ∷ int 4 ∷ []) ∷ (int 2 ∷ int 3 ∷ []) ∷ (int 2 ∷ int 4 ∷ []) ∷ []
 first_source_outermost = refl
-
-unknown_row_left_out : (later : Expr) → holds_all [] at_moment (expressions.Null ∷ later ∷ []) no_row ≡ Ok false
-unfolding truth_of
-unknown_row_left_out later = rw (null_value [] at_moment no_row) refl
 
 abbrev pair : Value → ℕ → Row
 pair v letter = row (v ∷ values.Text (letter ∷ []) ∷ [])
@@ -343,7 +380,7 @@ last_place = refl
 name_of_two_items : key_place (star 0 ((116 ∷ [], keyed) ∷ (117 ∷ [], keyed) ∷ [])) (keys.Name (107 ∷ [])) ≡ Err (faults.Ambiguous (107 ∷ []))
 name_of_two_items = refl
 
-datalink_is_no_key : key_of (star 0 ((116 ∷ [], linked) ∷ [])) standing.Item (record { by = keys.Place (pos 1); descending = false }) ≡ Err faults.TypeFault
+datalink_is_no_key : key_of (star 0 ((116 ∷ [], linked) ∷ [])) scope.Item (record { by = keys.Place (pos 1); descending = false }) ≡ Err faults.TypeFault
 datalink_is_no_key = refl
 
 datalink_is_no_grouping_column : group_place ((116 ∷ [], linked) ∷ []) (record { table = None; column = 100 ∷ [] }) ≡ Err faults.TypeFault
@@ -365,13 +402,13 @@ star_under_group_by = refl
 counts_is_aggregate : has_aggregate expressions.CountAll ≡ true
 counts_is_aggregate = ap has_aggregate (sym expressions.rolls-CountAll) ∙ fold-roll-Expr Bool aggregate_at level.CountAll
 
-counts_type : (columns : Columns) (s : Standing) → type_of columns s expressions.CountAll ≡ type_at columns level.CountAll s
-counts_type columns s = ap (λ (e : Expr). type_of columns s e) (sym expressions.rolls-CountAll) ∙ ap (λ f. f s) (fold-roll-Expr (Standing → Result SqlType SqlFault) (type_at columns) level.CountAll)
+counts_type : (columns : Columns) (s : AggregateScope) → type_of columns s expressions.CountAll ≡ type_at columns level.CountAll s
+counts_type columns s = ap (λ (e : Expr). type_of columns s e) (sym expressions.rolls-CountAll) ∙ ap (λ f. f s) (fold-roll-Expr (AggregateScope → Result SqlType SqlFault) (type_at columns) level.CountAll)
 
-counts_value : (columns : Columns) (context : Context) (group : List Row) (at : Row) → meaning columns context group expressions.CountAll at ≡ (said_at columns context group level.CountAll).at at
-counts_value columns context group at = ap (λ (e : Expr). meaning columns context group e at) (sym expressions.rolls-CountAll) ∙ ap (λ (said : Said). said.at at) (fold-roll-Expr Said (said_at columns context group) level.CountAll)
+counts_value : (columns : Columns) (context : Context) (group : List Row) (at : Row) → meaning columns context group expressions.CountAll at ≡ (denotation_at columns context group level.CountAll).at at
+counts_value columns context group at = ap (λ (e : Expr). meaning columns context group e at) (sym expressions.rolls-CountAll) ∙ ap (λ (denotation : Denotation). denotation.at at) (fold-roll-Expr Denotation (denotation_at columns context group) level.CountAll)
 
 -- SELECT COUNT(*) FROM t
 count_of_none : select (keys_of 1 []) (record { items = Some (record { expr = expressions.CountAll; alias = None } ∷ []); from = t ∷ []; conditions = []; filter = None; group = []; order = [] }) at_moment ≡ Ok (row (int 0 ∷ []) ∷ [])
 unfolding select
-count_of_none = rw (counts_is_aggregate, counts_type ((116 ∷ [], keyed) ∷ []) (standing.Grouped []), counts_value ((116 ∷ [], keyed) ∷ []) at_moment [] no_row) refl
+count_of_none = rw (counts_is_aggregate, counts_type ((116 ∷ [], keyed) ∷ []) (scope.Grouped []), counts_value ((116 ∷ [], keyed) ∷ []) at_moment [] no_row) refl

@@ -1,5 +1,6 @@
 -- What is put into a cell: the rule on NULL, the length, and the link number.
 use Rattle.std.specs.Prelude.{ℕ, suc, ◌+◌, ◌&&◌, Bool, true, false, List, [], ◌∷◌, length, bytes_eq, Option, Some, None, Result, Ok, Err, if◌then◌else◌, slice_get, nat_le}
+use Rattle.dl_base.specs.Limits.{most_links}
 use Rattle.dl_base.specs.declared.answer.Limit.TheVariants as limits
 use Rattle.dl_base.specs.declared.column.Column.{Column}
 use Rattle.dl_base.specs.declared.column.ColumnRule.{ColumnRule}
@@ -57,7 +58,7 @@ kept_link old d = None
 -- the datalink under the number that the cell keeps, else under the next one of the transaction; and the next one after it
 abbrev pub numbered : ℕ → ℕ → Dl → Option LinkNo → Result (Value × ℕ) SqlFault
 numbered tx k d (Some link) = Ok (values.Link (record d { link = Some link }), k)
-numbered tx k d None = if nat_le k 1000000 then Ok (values.Link (record d { link = Some (record { tx = tx; k = k }) }), suc k) else Err (faults.Limit limits.Links)
+numbered tx k d None = if nat_le k most_links then Ok (values.Link (record d { link = Some (record { tx = tx; k = k }) }), suc k) else Err (faults.Limit limits.Links)
 
 abbrev pub stored_link : ℕ → ℕ → Kind → Value → Dl → Result (Value × ℕ) SqlFault
 stored_link tx k (kinds.Linked options) old d = numbered tx k d (kept_link old d)

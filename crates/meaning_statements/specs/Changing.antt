@@ -1,6 +1,7 @@
 -- What CREATE TABLE, DROP TABLE, INSERT, UPDATE and DELETE make of tables.
-use Rattle.std.specs.Prelude.{ℕ, ◌+◌, ◌-◌, ◌^◌, ◌==◌, ◌&&◌, ◌++◌, Bool, true, false, not, List, [], ◌∷◌, length, map, bytes_eq, Option, Some, None, is_none, Result, Ok, Err, if◌then◌else◌, nat_le, nat_lt}
+use Rattle.std.specs.Prelude.{ℕ, ◌+◌, ◌-◌, ◌==◌, ◌&&◌, ◌++◌, Bool, true, false, not, List, [], ◌∷◌, length, map, bytes_eq, Option, Some, None, is_none, Result, Ok, Err, if◌then◌else◌, nat_le, nat_lt}
 use Rattle.std.specs.List.{list_any, zip}
+use Rattle.dl_base.specs.Limits.{most_columns, most_rows, most_tables, row_numbers}
 use Rattle.dl_base.specs.declared.answer.Limit.TheVariants as limits
 use Rattle.dl_base.specs.declared.column.Column.{Column}
 use Rattle.dl_base.specs.declared.sql_fault.SqlFault.{SqlFault}
@@ -14,15 +15,14 @@ use Rattle.dl_base.specs.declared.value.Value.{Value}
 use Rattle.dl_base.specs.declared.value.Value.TheVariants as values
 use Rattle.meaning_sql.specs.declared.Context.{Context}
 use Rattle.meaning_sql.specs.declared.SqlType.{SqlType}
-use Rattle.meaning_sql.specs.declared.Standing.TheVariants as standing
+use Rattle.meaning_sql.specs.declared.AggregateScope.TheVariants as scope
 use Rattle.meaning_sql.specs.Columns.{Columns}
-use Rattle.meaning_sql.specs.Faults.{◌>>=◌, typed}
+use Rattle.meaning_sql.specs.Faults.{◌>>=◌, typed, ensure, option_list, try_map, try_filter}
 use Rattle.meaning_sql.specs.Types.{type_of}
 use Rattle.meaning_sql.specs.Values.{meaning, cell}
 use Rattle.meaning_statements.specs.Assigning.{is_assignable, kind_of_column, stored_row}
-use Rattle.meaning_statements.specs.Conditions.{condition_type, holds_all}
+use Rattle.meaning_sql.specs.Conditions.{condition_type, holds_all}
 use Rattle.meaning_statements.specs.Creating.{columns_made}
-use Rattle.meaning_statements.specs.Lists.{unless, option_list, each, kept}
 use Rattle.meaning_statements.specs.Sources.{no_row, present, own_columns}
 use Rattle.meaning_tables.specs.Fits.{repeated_key}
 use Rattle.meaning_tables.specs.Tables.{Rows, Tables, new_table, table_of, with_table, without_table}
@@ -45,9 +45,9 @@ keys_hold t = duplicate (repeated_key t)
 
 unfoldable pub create : Tables → List ℕ → List ColumnDef → ℕ → Result Changed SqlFault
 create tables name columns k = do
-  absent ← unless (is_none (table_of tables name)) (faults.TableExists name)
-  room ← unless (nat_lt (length tables) 256) (faults.Limit limits.Tables)
-  few ← unless (nat_le (length columns) 64) (faults.Limit limits.Columns)
+  absent ← ensure (is_none (table_of tables name)) (faults.TableExists name)
+  room ← ensure (nat_lt (length tables) most_tables) (faults.Limit limits.Tables)
+  few ← ensure (nat_le (length columns) most_columns) (faults.Limit limits.Columns)
   made ← columns_made [] false columns
   Ok (record { tables = tables ++ (name, new_table made) ∷ []; next = k; count = 0 })
 
@@ -66,7 +66,7 @@ place_named n i (c ∷ cs) = if bytes_eq n c.name then Ok i else place_named n (
 abbrev pub set_places : List Column → List (List ℕ) → List (List ℕ) → Result (List ℕ) SqlFault
 set_places columns seen [] = Ok []
 set_places columns seen (n ∷ ns) =
-    place_named n 0 columns >>= λ i. unless (not (list_any (bytes_eq n) seen)) (faults.Ambiguous n) >>= λ u. set_places columns (n ∷ seen) ns >>= λ is. Ok (i ∷ is)
+    place_named n 0 columns >>= λ i. ensure (not (list_any (bytes_eq n) seen)) (faults.Ambiguous n) >>= λ u. set_places columns (n ∷ seen) ns >>= λ is. Ok (i ∷ is)
 
 abbrev pub all_places : ℕ → List Column → List ℕ
 all_places i [] = []
@@ -79,7 +79,7 @@ target_places columns None = Ok (all_places 0 columns)
 
 -- the types of values fit the columns at these places
 abbrev pub assigned : List Column → List ℕ → List SqlType → Result (List SqlType) SqlFault
-assigned columns places types = each (λ p. typed (is_assignable (kind_of_column columns p.0) p.1) p.1) (zip places types)
+assigned columns places types = try_map (λ p. typed (is_assignable (kind_of_column columns p.0) p.1) p.1) (zip places types)
 
 -- INSERT
 
@@ -92,10 +92,14 @@ abbrev pub arranged : ℕ → List Column → List ℕ → Row → List Value
 arranged i [] places tuple = []
 arranged i (c ∷ cs) places tuple = value_for 0 places tuple i ∷ arranged (i + 1) cs places tuple
 
+-- whether a table takes so many more rows
+abbrev pub has_room : Rows → ℕ → Bool
+has_room t more = nat_le (length t.rows + more) most_rows && nat_le (t.next + more) row_numbers
+
 -- the row of a tuple; its expressions see the given columns at the given row, which are none
 unfoldable pub inserted_row : Context → Columns → Row → List Column → List ℕ → ℕ → List Expr → Result (List Value × ℕ) SqlFault
 inserted_row context seen at columns places k tuple =
-    each (λ e. meaning seen context [] e at) tuple >>= λ vs. stored_row context.tx k 0 columns no_row (record { values = arranged 0 columns places (record { values = vs }) })
+    try_map (λ e. meaning seen context [] e at) tuple >>= λ vs. stored_row context.tx k 0 columns no_row (record { values = arranged 0 columns places (record { values = vs }) })
 
 -- tuples in order, under row numbers from one on
 abbrev pub inserted_rows : Context → Columns → Row → List Column → List ℕ → ℕ → ℕ → List (List Expr) → Result (List (ℕ × Row) × ℕ) SqlFault
@@ -109,11 +113,11 @@ unfoldable pub insert : Tables → List ℕ → Option (List (List ℕ)) → Lis
 insert tables name names tuples context k = do
   t ← present name (table_of tables name)
   places ← target_places t.columns names
-  lengths ← each (λ es. unless (length es == length places) faults.Arity) tuples
-  types ← each (each (type_of [] standing.Row)) tuples
-  fit ← each (assigned t.columns places) types
+  lengths ← try_map (λ es. ensure (length es == length places) faults.Arity) tuples
+  types ← try_map (try_map (type_of [] scope.Row)) tuples
+  fit ← try_map (assigned t.columns places) types
   rows ← inserted_rows context [] no_row t.columns places t.next k tuples
-  room ← unless (nat_le (length t.rows + length tuples) 1000000 && nat_le (t.next + length tuples) (2 ^ 63)) (faults.Limit limits.Rows)
+  room ← ensure (has_room t (length tuples)) (faults.Limit limits.Rows)
   let after = record t { next = t.next + length tuples; rows = t.rows ++ rows.0 }
   keys ← keys_hold after
   Ok (record { tables = with_table tables name after; next = rows.1; count = length tuples })
@@ -132,7 +136,7 @@ with_cells places news i (v ∷ old) = new_cell 0 places news i v ∷ with_cells
 -- the new values of a row that is met: right sides on the old row, then column by column
 unfoldable pub updated_row : Columns → Context → List Column → List ℕ → List Expr → ℕ → Row → Result (List Value × ℕ) SqlFault
 updated_row all context columns places rights k row =
-    each (λ e. meaning all context [] e row) rights >>= λ vs. stored_row context.tx k 0 columns row (record { values = with_cells places (record { values = vs }) 0 row.values })
+    try_map (λ e. meaning all context [] e row) rights >>= λ vs. stored_row context.tx k 0 columns row (record { values = with_cells places (record { values = vs }) 0 row.values })
 
 -- rows in order: each one's conditions, then its new values; and how many were met
 abbrev pub updated_rows : Columns → Context → List Column → List Expr → List ℕ → List Expr → ℕ → List (ℕ × Row) → Result (List (ℕ × Row) × (ℕ × ℕ)) SqlFault
@@ -148,8 +152,8 @@ update tables name sets filter context k = do
   t ← present name (table_of tables name)
   places ← set_places t.columns [] (map (λ s. s.0) sets)
   let columns = own_columns name t
-  types ← each (λ s. type_of columns standing.Row s.1) sets
-  conditions ← each (condition_type columns) (option_list filter)
+  types ← try_map (λ s. type_of columns scope.Row s.1) sets
+  conditions ← try_map (condition_type columns) (option_list filter)
   fit ← assigned t.columns places types
   rows ← updated_rows columns context t.columns (option_list filter) places (map (λ s. s.1) sets) k t.rows
   let after = record t { rows = rows.0 }
@@ -159,13 +163,13 @@ update tables name sets filter context k = do
 -- DELETE
 
 abbrev pub remaining : Columns → Context → List Expr → List (ℕ × Row) → Result (List (ℕ × Row)) SqlFault
-remaining columns context conditions rows = kept (λ r. holds_all columns context conditions r.1 >>= λ met. Ok (not met)) rows
+remaining columns context conditions rows = try_filter (λ r. holds_all columns context conditions r.1 >>= λ met. Ok (not met)) rows
 
 unfoldable pub delete : Tables → List ℕ → Option Expr → Context → ℕ → Result Changed SqlFault
 delete tables name filter context k = do
   t ← present name (table_of tables name)
   let columns = own_columns name t
-  types ← each (condition_type columns) (option_list filter)
+  types ← try_map (condition_type columns) (option_list filter)
   rows ← remaining columns context (option_list filter) t.rows
   Ok (record { tables = with_table tables name (record t { rows = rows }); next = k; count = length t.rows - length rows })
 

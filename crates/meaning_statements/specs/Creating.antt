@@ -17,8 +17,7 @@ use Rattle.dl_base.specs.declared.statement.Integrity.{Integrity}
 use Rattle.dl_base.specs.declared.statement.Integrity.TheVariants as integrity
 use Rattle.dl_base.specs.declared.statement.KindDef.{KindDef}
 use Rattle.dl_base.specs.declared.statement.KindDef.TheVariants as defs
-use Rattle.meaning_sql.specs.Faults.{◌>>=◌}
-use Rattle.meaning_statements.specs.Lists.{unless}
+use Rattle.meaning_sql.specs.Faults.{◌>>=◌, ensure}
 use Rattle.meaning_tables.specs.OptionRows.{is_option_row}
 
 -- MODE DB2OPTIONS
@@ -63,8 +62,8 @@ rule_made d = if nat_lt 0 d.key then rules.Key else (if nat_lt 0 d.not_null then
 abbrev pub columns_made : List (List ℕ) → Bool → List ColumnDef → Result (List Column) SqlFault
 columns_made seen keyed [] = Ok []
 columns_made seen keyed (d ∷ ds) =
-    unless (not (list_any (bytes_eq d.name) seen)) (faults.Ambiguous d.name) >>= λ u.
+    ensure (not (list_any (bytes_eq d.name) seen)) (faults.Ambiguous d.name) >>= λ u.
     kind_made d.name d.kind >>= λ kind.
-    unless (rules_fit keyed d kind) faults.BadOptions >>= λ v.
+    ensure (rules_fit keyed d kind) faults.BadOptions >>= λ v.
     columns_made (d.name ∷ seen) (keyed || nat_lt 0 d.key) ds >>= λ cs.
     Ok (record { name = d.name; kind = kind; rule = rule_made d } ∷ cs)

@@ -1,6 +1,5 @@
 pub mod Lists
 pub mod Sources
-pub mod Conditions
 pub mod Selecting
 pub mod Assigning
 pub mod Creating

@@ -3,8 +3,6 @@
 
 mod laws;
 mod read;
-#[cfg(test)]
-mod tests;
 
 pub use laws::one_reading;
 pub use read::read_line;

@@ -1,5 +1,6 @@
 // What a line is read as.
 ghost use Rattle.std.specs.Prelude.{◌≡◌, ◌≤◌, ◌+◌, ℕ, List, length, IfOk, Err};
+ghost use Rattle.dl_base.specs.Limits.{most_line_bytes};
 ghost use Rattle.run_lines.specs.Reading.{Reads, IsFilled, IsStatement, Shows};
 ghost use Rattle.sql_syntax.specs.Parsing.{Parses};
 ghost use Rattle.run_script.specs.Expansion.{IsRead};
@@ -16,7 +17,7 @@ use std::alloc::Global;
 pub fn read_line(alloc: Global, line: &[u8]) -> Result<Line, Memory>
     ensures exact { IfOk result (λ l. Reads line.now l) }
     ensures only { (l : Meant) → Reads line.now l → IfOk result (λ r. r ≡ l) }
-    ensures read { IfOk result IsRead }
+    ensures placed { IfOk result IsRead }
 {
     match read_outline(alloc, line)? {
         Outline::Plain(line) => Ok(line),
@@ -26,10 +27,10 @@ pub fn read_line(alloc: Global, line: &[u8]) -> Result<Line, Memory>
 
 // The statement of a session, whose text stands behind so many bytes of the line.
 fn statement(alloc: Global, name: Name, before: usize, text: &[u8]) -> Result<Line, Memory>
-    requires { before + length text.now ≤ 65536 }
+    requires { before + length text.now ≤ most_line_bytes }
     ensures exact { IfOk result (λ l. IsStatement name before text.now l) }
     ensures only { (l : Meant) → IsStatement name before text.now l → IfOk result (λ r. r ≡ l) }
-    ensures read { IfOk result IsRead }
+    ensures placed { IfOk result IsRead }
 {
     match parse(alloc, text) {
         Ok(statement) => Ok(Line::Session(name, Sentence::Sql(statement))),
@@ -40,10 +41,10 @@ fn statement(alloc: Global, name: Name, before: usize, text: &[u8]) -> Result<Li
 // The line of a text that is no statement, whoever says it.
 #[tactic(auto, using(crate::proofs::Places::bad_fault_place, crate::proofs::Places::syntax_fault_place))]
 fn no_statement(fault: ParseFault, before: usize, text: &[u8]) -> Result<Line, Memory>
-    requires within { before + length text.now ≤ 65536 }
+    requires within { before + length text.now ≤ most_line_bytes }
     requires fault { Parses text.now (Err fault) }
     ensures shown { (name : List ℕ) → IfOk result (Shows name before (Err fault)) }
-    ensures read { IfOk result IsRead }
+    ensures placed { IfOk result IsRead }
 {
     match fault {
         ParseFault::BadChar(place) => Ok(Line::Bad(Refusal::BadLine(place + before as u64))),

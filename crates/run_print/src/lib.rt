@@ -5,8 +5,6 @@ mod answers;
 mod cells;
 mod history;
 mod refusals;
-#[cfg(test)]
-mod tests;
 mod words;
 
 pub use answers::text;

@@ -8,9 +8,10 @@ use crate::words::{
     put_linked, put_two_numbers, put_with, put_with_link, put_with_number, put_with_transaction,
 };
 use dl_base::{
-    BadLink, ClaimRefusal, FileRefusal, Limit, LinkNo, List, Memory, Name, Path, Phase, Refusal,
+    ClaimRefusal, FileRefusal, Limit, LinkNo, List, Memory, Name, Path, Phase, Refusal,
     RestoreRefusal, SqlFault, Why,
 };
+use dl_location::bad_link_number;
 
 /// The words of a refusal, where the sessions have these names in order.
 pub fn put_refusal(into: &mut List<u8>, why: &Refusal, names: &List<Name>) -> Result<(), Memory>
@@ -84,7 +85,9 @@ fn put_sql_fault(into: &mut List<u8>, fault: &SqlFault) -> Result<(), Memory>
         SqlFault::TooLong(name) => put_with(into, b"too long ", name.bytes()),
         SqlFault::Overflow => into.extend(b"overflow"),
         SqlFault::ZeroDivide => into.extend(b"divide by zero"),
-        SqlFault::BadLink(why) => put_with_number(into, b"bad link ", bad_link_number(*why)),
+        SqlFault::BadLink(why) => {
+            put_with_number(into, b"bad link ", u64::from(bad_link_number(*why)))
+        },
         SqlFault::BadOptions => into.extend(b"bad options"),
         SqlFault::Limit(limit) => put_with(into, b"limit ", limit_words(*limit)),
         SqlFault::Memory => into.extend(b"memory"),
@@ -150,20 +153,6 @@ fn put_why(into: &mut List<u8>, why: Why) -> Result<(), Memory>
         Why::NoToken => into.extend(b"no token"),
         Why::WrongToken => into.extend(b"wrong token"),
         Why::Expired(moment) => put_with_number(into, b"expired ", moment),
-    }
-}
-
-fn bad_link_number(why: BadLink) -> u64
-    ensures { result ≡ meant.bad_link_number why }
-{
-    match why {
-        BadLink::NotUrl => 1,
-        BadLink::Scheme => 2,
-        BadLink::Host => 3,
-        BadLink::Extra => 4,
-        BadLink::Path => 5,
-        BadLink::LinkType => 6,
-        BadLink::Comment => 7,
     }
 }
 

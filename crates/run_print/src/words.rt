@@ -1,6 +1,6 @@
 // Words, and numbers behind them.
 ghost use Rattle.std.specs.Prelude.{◌≡◌, ◌++◌, codes, decimal, OnOk};
-ghost use Rattle.meaning_files.specs.Links as numbers;
+ghost use Rattle.dl_token.specs.Links as numbers;
 
 use dl_base::{LinkNo, List, Memory, Path};
 use dl_token::{link_text, transaction_text};

@@ -1,8 +1,9 @@
 -- Who acts in a script: sessions, by `NAME:`, and users, by `@USER`.
 use Rattle.std.specs.Prelude.{ℕ, map, fold, ◌+◌, Bool, false, ◌&&◌, ◌||◌, ◌==◌, not, nat_lt, nat_le, if◌then◌else◌, List, [], ◌∷◌, ◌++◌, length, take, bytes_eq, Option, Some, None}
 use Rattle.std.specs.List.{list_any, position}
+use Rattle.dl_base.specs.Limits.{most_actors, most_line_bytes}
 use Rattle.fs_command.specs.Commands.{is_session}
-use Rattle.meaning_script.specs.Lines.{is_quiet, is_user, most_bytes}
+use Rattle.meaning_script.specs.Lines.{is_quiet, is_user}
 use Rattle.run_script.specs.Outlines.{word_len}
 
 -- The actor of a line, as it stands at the line's front: `NAME`, or `@USER`. A line names one also where the rest of it is bad.
@@ -18,11 +19,7 @@ actor_in [] = None
 actor_in (b ∷ text) = if b == 64 then user_in text else session_in (b ∷ text) (position (λ c. c == 58) (b ∷ text))
 
 unfoldable pub actor_of : List ℕ → Option (List ℕ)
-actor_of line = if is_quiet line || nat_lt most_bytes (length line) then None else actor_in line
-
--- how many actors a script may have
-abbrev pub most_actors : ℕ
-most_actors = 64
+actor_of line = if is_quiet line || nat_lt most_line_bytes (length line) then None else actor_in line
 
 abbrev pub is_known : List (List ℕ) → List ℕ → Bool
 is_known actors a = list_any (bytes_eq a) actors

@@ -14,7 +14,7 @@ use Rattle.dl_base.specs.declared.value.LinkNo.{LinkNo}
 use Rattle.fs_command.specs.Commands.{read_of_path}
 use Rattle.fs_command.specs.declared.line.FileLine.{FileLine}
 use Rattle.fs_command.specs.declared.line.FileLine.TheVariants as files
-use Rattle.meaning_files.specs.Tokens.{read_token}
+use Rattle.dl_token.specs.Tokens.{read_token}
 use Rattle.run_script.specs.declared.expansion.ActorState.{ActorState}
 use Rattle.run_script.specs.declared.expansion.Next.{Next}
 use Rattle.run_script.specs.declared.expansion.Next.TheVariants as nexts
@@ -165,18 +165,18 @@ file last (files.ReadOf user name) (a ∷ more) = given 0
 
 -- ---- the system
 
--- each pending link, and then an end
-abbrev pub each : List LinkNo → Then → Then
-each [] end = end
-each (l ∷ ls) end = does (steps.Archive l)
+-- the first pending link is archived; where none is left, an end
+abbrev pub archive_first : List LinkNo → Then → Then
+archive_first [] end = end
+archive_first (l ∷ ls) end = does (steps.Archive l)
 
 -- `! archive`
 unfoldable pub archive : ℕ → List LinkNo → Then
-archive done pending = each pending (answered (answers.Archived done))
+archive done pending = archive_first pending (answered (answers.Archived done))
 
 -- `! backup`: each pending link, and then the tables
 unfoldable pub backup_from : List LinkNo → Then
-backup_from pending = each pending (does steps.Backup)
+backup_from pending = archive_first pending (does steps.Backup)
 
 unfoldable pub backup_behind : List Answer → List LinkNo → Answer → Then
 backup_behind done pending last = if is_archived last then backup_from pending else given (length done - 1)

@@ -1,39 +1,21 @@
 -- What the words behind a `!` ask, or the place of the first word that fits no order behind those before it.
-use Rattle.std.specs.Prelude.{ℕ, ◌+◌, if◌then◌else◌, List, [], ◌∷◌, length, codes, Option, Some, None, Result, Ok, Err}
+use Rattle.std.specs.Prelude.{ℕ, ◌+◌, if◌then◌else◌, List, length, codes, Option, Some, None, Result, Err}
 use Rattle.dl_base.specs.declared.step.Target.{Target}
 use Rattle.dl_base.specs.declared.step.Target.TheVariants as targets
 use Rattle.fs_command.specs.Words.{Word, words}
-use Rattle.fs_command.specs.Commands.{Part, word, first, is}
-use Rattle.run_numbers.specs.Numbers.{number_in}
+use Rattle.fs_command.specs.Commands.{◌>>=◌, Part, Ending, word, nothing, first, is}
+use Rattle.dl_base.specs.Digits.{number_in}
 use Rattle.run_script.specs.declared.kind.Order.{Order}
 use Rattle.run_script.specs.declared.kind.Order.TheVariants as orders
 use Rattle.run_script.specs.declared.order.Kept.{Kept}
 use Rattle.run_script.specs.declared.order.Kept.TheVariants as kept
-
--- What the words that are left ask as a whole. The number is the place behind the text's last byte, where a word is missing.
-abbrev pub Ending : Type 0
-Ending = ℕ → List Word → Result Order ℕ
-
--- no word more
-abbrev pub nothing : Order → Ending
-nothing order end [] = Ok order
-nothing order end (w ∷ ws) = Err w.place
-
--- a part, and then an ending
-abbrev pub followed : {A : Type 0} → Result (A × List Word) ℕ → (A → Ending) → ℕ → Result Order ℕ
-followed (Err place) next end = Err place
-followed (Ok read) next end = next read.0 end read.1
-
-infixl 10 ◌>>=◌
-abbrev pub ◌>>=◌ : {A : Type 0} → Part A → (A → Ending) → Ending
-(part >>= next) end ws = followed (part end ws) next end
 
 -- N: 1 to 10 decimal digits, that are at most a bound
 abbrev pub number : ℕ → Part ℕ
 number most = word (λ w. number_in 10 0 most w.bytes)
 
 -- tick N
-unfoldable pub tick : Ending
+unfoldable pub tick : Ending Order
 tick = do
   seconds ← number 1000000000
   nothing (orders.Tick seconds)
@@ -46,7 +28,7 @@ abbrev pub target : Kept → ℕ → Target
 target kept.Backup n = targets.Backup n
 target kept.Commit n = targets.Commit n
 
-unfoldable pub restore : Ending
+unfoldable pub restore : Ending Order
 restore = do
   what ← word (λ w. kept_in w.bytes)
   n ← number 9999999999
@@ -59,13 +41,13 @@ crash_in bytes =
     else (if is (codes "database") bytes then Some orders.CrashDatabase
     else (if is (codes "both") bytes then Some orders.CrashBoth else None))
 
-unfoldable pub crash : Ending
+unfoldable pub crash : Ending Order
 crash = do
   order ← word (λ w. crash_in w.bytes)
   nothing order
 
 -- what follows the first word
-abbrev pub verb_then : Word → Ending
+abbrev pub verb_then : Word → Ending Order
 verb_then verb =
     if is (codes "tick") verb.bytes then tick
     else (if is (codes "archive") verb.bytes then nothing orders.Archive
@@ -75,7 +57,7 @@ verb_then verb =
     else (if is (codes "resolve") verb.bytes then nothing orders.Resolve
     else (λ end ws. Err verb.place))))))
 
-abbrev pub order_words : Ending
+abbrev pub order_words : Ending Order
 order_words = do
   verb ← word first
   verb_then verb

@@ -1,11 +1,12 @@
 -- What a line of a script is, as far as it is no statement. Places count the bytes of a line from 1.
 use Rattle.std.specs.Prelude.{ℕ, ◌≤◌, ◌+◌, ◌==◌, not, nat_lt, if◌then◌else◌, List, [], ◌∷◌, length, take, drop, codes, Option, Some, None, Result, Ok, Err}
 use Rattle.std.specs.List.{position, prefix_len}
+use Rattle.dl_base.specs.Limits.{most_line_bytes}
 use Rattle.dl_base.specs.declared.answer.Refusal.TheVariants as refusals
 use Rattle.fs_command.specs.Commands.{command, is, is_session}
 use Rattle.fs_command.specs.Words.{Word, words}
 use Rattle.fs_command.specs.declared.line.FileLine.{FileLine}
-use Rattle.meaning_script.specs.Lines.{is_quiet, is_user, most_bytes}
+use Rattle.meaning_script.specs.Lines.{is_quiet, is_user}
 use Rattle.run_script.specs.Expansion.{IsRead}
 use Rattle.run_script.specs.Orders.{order}
 use Rattle.run_script.specs.declared.kind.Line.{Line}
@@ -82,11 +83,11 @@ by_mark (b ∷ text) =
 unfoldable pub outline : List ℕ → Outline
 outline line =
     if is_quiet line then outlines.Plain lines.Nothing
-    else (if nat_lt most_bytes (length line) then outlines.Plain (bad_at (most_bytes + 1)) else by_mark line)
+    else (if nat_lt most_line_bytes (length line) then outlines.Plain (bad_at (most_line_bytes + 1)) else by_mark line)
 
 -- ---- what every outline is
 
 -- the outline of a line of so many bytes: its statement begins within the line, and a line with a statement is not too long
 abbrev pub IsWithin : ℕ → Outline → Type 0
 IsWithin len (outlines.Plain l) = IsRead l
-IsWithin len (outlines.Statement name before) = (before ≤ len) × (len ≤ 65536)
+IsWithin len (outlines.Statement name before) = (before ≤ len) × (len ≤ most_line_bytes)

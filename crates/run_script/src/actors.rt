@@ -5,14 +5,12 @@ ghost use Rattle.std.specs.Option.{option_map};
 ghost use Rattle.run_script.specs.Actors.{actor_of, session_in, is_known, is_extra, with_actor, session_number, is_user_mark};
 
 use crate::line::is_quiet;
-use crate::outline::{MOST_BYTES, colon, is_session, word_len};
+use crate::outline::{colon, is_session, word_len};
 use crate::user::is_user;
-use dl_base::{List, Memory, Name, Text};
+use dl_base::limits::{MOST_ACTORS, MOST_LINE_BYTES};
+use dl_base::{List, Memory, Text};
 use std::alloc::Global;
 use std::marker::Model;
-
-/// How many actors a script may have.
-const MOST_ACTORS: usize = 64;
 
 /// The actor of a line, as it stands at the line's front: `NAME` of a session, or `@USER`. A line has one also where the rest of it is
 /// bad; blanks, comments, lines of the system, lines that are too long and lines whose first word is bad have none. It takes no
@@ -21,7 +19,7 @@ const MOST_ACTORS: usize = 64;
 pub fn actor_of(line: &[u8]) -> Option<&[u8]>
     ensures { option_map (λ a. a.now) result ≡ actor_of line.now }
 {
-    if is_quiet(line) || line.len() > MOST_BYTES {
+    if is_quiet(line) || line.len() > MOST_LINE_BYTES {
         return None;
     }
     match line {
@@ -57,12 +55,13 @@ pub struct Actors {
 
 impl Model for Actors {
     ghost use Rattle.std.specs.Prelude.{List, ℕ, ◌≤◌, length};
+    ghost use Rattle.dl_base.specs.Limits.{most_actors};
 
     ghost Value = { List (List ℕ) };
 
     ghost view = { λ a. a.known };
 
-    ghost invariant = { λ a. length a.known ≤ 64 };
+    ghost invariant = { λ a. length a.known ≤ most_actors };
 }
 
 impl Actors {

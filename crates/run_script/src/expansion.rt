@@ -3,7 +3,7 @@ ghost use Rattle.std.specs.Prelude.{◌≡◌, ◌<◌, ℕ, List as Bytes, leng
 ghost use Rattle.std.specs.Option.{option_map};
 ghost use Rattle.dl_base.specs.declared.file.FileWhat.{FileWhat as What};
 ghost use Rattle.fs_command.specs.Commands.{asked as asks, read_of_path};
-ghost use Rattle.meaning_files.specs.Tokens.{read_token};
+ghost use Rattle.dl_token.specs.Tokens.{read_token};
 ghost use Rattle.run_script.specs.Expansion.{meant, expansion, IsRead, behind_statement, behind_prepare, behind_decide, behind_finish, no_value, is_refused, is_commit, is_begun, is_archived, one, alone, is_alone, statement, step_from, goes_on, first_step, commit_behind, commit, session, read_of, file, archive, backup_from, backup_behind, backup, crash_both, system};
 
 use crate::kind::{Line, Order, Sentence};
@@ -106,6 +106,7 @@ fn one<'a>(step: Step, answers: &[Answer]) -> Next<'a>
     if answers.is_empty() {
         Next::Do(step)
     } else {
+        drop(step);
         Next::Given(0)
     }
 }

@@ -7,8 +7,6 @@ mod kind;
 mod line;
 mod order;
 mod outline;
-#[cfg(test)]
-mod tests;
 mod user;
 
 pub use actors::{Actors, actor_of, session_number};

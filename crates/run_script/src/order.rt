@@ -3,13 +3,12 @@ ghost use Rattle.std.specs.Prelude.{◌≡◌, ◌≤◌, ◌<◌, ◌+◌, ◌^
 ghost use Rattle.std.specs.List.{slice_range};
 ghost use Rattle.std.specs.Result.{IfErr};
 ghost use Rattle.fs_command.specs.Words.{words_from, word_at};
-ghost use Rattle.fs_command.specs.Commands.{Gives, IfBad, IsPlaceIn, word};
-ghost use Rattle.run_script.specs.Orders.{order, nothing, number, tick, restore, crash, kept_in, crash_in, target};
+ghost use Rattle.fs_command.specs.Commands.{IsReading, IsPlaceOf, word};
+ghost use Rattle.run_script.specs.Orders.{order, number, tick, restore, crash, kept_in, crash_in, target};
 
 use crate::kind::Order;
-use dl_base::Target;
-use fs_command::{CommandFault, Span, next_word};
-use run_numbers::number_in;
+use dl_base::{Target, number_in};
+use fs_command::{BadPlace, misplaced, next_word, nothing_behind};
 
 /// What `restore` names.
 #[derive(Clone, Copy, Debug, PartialEq, Eq)]
@@ -20,9 +19,9 @@ pub(crate) enum Kept {
 
 /// The order that a text behind a `!` is. A bad place counts the bytes of the text from 1. It takes no memory.
 #[tactic(auto, unfolding(crate::specs::Orders::order))]
-pub(crate) fn read_order(text: &[u8]) -> Result<Order, CommandFault>
-    ensures exact { Gives result (order text.now) }
-    ensures place { IfErr result (λ e. IsPlaceIn text.now e) }
+pub(crate) fn read_order(text: &[u8]) -> Result<Order, BadPlace>
+    ensures exact { IsReading result (order text.now) }
+    ensures place { IfErr result (λ e. IsPlaceOf text.now e.place) }
 {
     let verb = next_word(text, 0)?;
     let at = verb.end;
@@ -48,41 +47,21 @@ pub(crate) fn read_order(text: &[u8]) -> Result<Order, CommandFault>
     Err(misplaced(verb.begin))
 }
 
-// That the word from this index, from 0, fits nothing.
-fn misplaced(begin: usize) -> CommandFault
-    requires { begin < usize.MAX }
-    ensures { result ≡ CommandFault.BadCommand (begin + 1) }
-{
-    CommandFault::BadCommand(begin as u64 + 1)
-}
-
-// The order, where no word stands from an index on.
-fn nothing_behind(order: Order, text: &[u8], at: usize) -> Result<Order, CommandFault>
-    requires { at ≤ length text.now }
-    ensures exact { Gives result (nothing order (length text.now + 1) (words_from at text.now)) }
-    ensures place { IfErr result (λ e. IsPlaceIn text.now e) }
-{
-    match next_word(text, at) {
-        Ok(word) => Err(misplaced(word.begin)),
-        Err(_) => Ok(order),
-    }
-}
-
 #[tactic(auto, unfolding(crate::specs::Orders::tick))]
-fn tick(text: &[u8], at: usize) -> Result<Order, CommandFault>
+fn tick(text: &[u8], at: usize) -> Result<Order, BadPlace>
     requires { at ≤ length text.now }
-    ensures exact { Gives result (tick (length text.now + 1) (words_from at text.now)) }
-    ensures place { IfErr result (λ e. IsPlaceIn text.now e) }
+    ensures exact { IsReading result (tick (length text.now + 1) (words_from at text.now)) }
+    ensures place { IfErr result (λ e. IsPlaceOf text.now e.place) }
 {
     let (seconds, end) = number_word(1_000_000_000, text, at)?;
     nothing_behind(Order::Tick(seconds), text, end)
 }
 
 #[tactic(auto, unfolding(crate::specs::Orders::restore))]
-fn restore(text: &[u8], at: usize) -> Result<Order, CommandFault>
+fn restore(text: &[u8], at: usize) -> Result<Order, BadPlace>
     requires { at ≤ length text.now }
-    ensures exact { Gives result (restore (length text.now + 1) (words_from at text.now)) }
-    ensures place { IfErr result (λ e. IsPlaceIn text.now e) }
+    ensures exact { IsReading result (restore (length text.now + 1) (words_from at text.now)) }
+    ensures place { IfErr result (λ e. IsPlaceOf text.now e.place) }
 {
     let word = next_word(text, at)?;
     let Some(kept) = kept_in(&text[word.begin..word.end]) else {
@@ -114,10 +93,10 @@ fn target(kept: Kept, n: u64) -> Target
 }
 
 #[tactic(auto, unfolding(crate::specs::Orders::crash))]
-fn crash(text: &[u8], at: usize) -> Result<Order, CommandFault>
+fn crash(text: &[u8], at: usize) -> Result<Order, BadPlace>
     requires { at ≤ length text.now }
-    ensures exact { Gives result (crash (length text.now + 1) (words_from at text.now)) }
-    ensures place { IfErr result (λ e. IsPlaceIn text.now e) }
+    ensures exact { IsReading result (crash (length text.now + 1) (words_from at text.now)) }
+    ensures place { IfErr result (λ e. IsPlaceOf text.now e.place) }
 {
     let word = next_word(text, at)?;
     let Some(order) = crash_in(&text[word.begin..word.end]) else {
@@ -142,13 +121,13 @@ fn crash_in(word: &[u8]) -> Option<Order>
 }
 
 // The next word, which is a number of at most 10 digits up to a bound, and the index behind it.
-fn number_word(most: u64, text: &[u8], at: usize) -> Result<(u64, usize), CommandFault>
+fn number_word(most: u64, text: &[u8], at: usize) -> Result<(u64, usize), BadPlace>
     requires { at ≤ length text.now }
-    ensures place { IfErr result (λ e. IsPlaceIn text.now e) }
+    ensures place { IfErr result (λ e. IsPlaceOf text.now e.place) }
     ensures within { IfOk result (λ n. n.1 ≤ length text.now) }
     ensures value { MatchResult result
         (λ n. number most (length text.now + 1) (words_from at text.now) ≡ Ok (n.0, words_from n.1 text.now))
-        (λ e. IfBad e (λ k. number most (length text.now + 1) (words_from at text.now) ≡ Err k)) }
+        (λ e. number most (length text.now + 1) (words_from at text.now) ≡ Err e.place) }
 {
     let word = next_word(text, at)?;
     match number_in(10, 0, most, &text[word.begin..word.end]) {

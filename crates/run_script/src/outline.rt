@@ -1,6 +1,7 @@
 // What a line is, as far as it is no statement.
 ghost use Rattle.std.specs.Prelude.{ℕ, ◌≡◌, ◌≤◌, ◌<◌, ◌+◌, ◌==◌, true, Some, length, take, drop, IfOk, IfSome};
 ghost use Rattle.std.specs.List.{position};
+ghost use Rattle.dl_base.specs.Limits.{most_line_bytes};
 ghost use Rattle.dl_base.specs.Name.{IsName};
 ghost use Rattle.fs_command.specs.Commands.{command, is_session};
 ghost use Rattle.fs_command.specs.Words.{words_from};
@@ -12,15 +13,10 @@ use crate::kind::{Line, Outline, Sentence};
 use crate::line::is_quiet;
 use crate::order::read_order;
 use crate::user::{is_user, user_name};
+use dl_base::limits::{MOST_ACTOR_NAME_BYTES, MOST_LINE_BYTES};
 use dl_base::{Memory, Name, Refusal, is_name};
 use fs_command::{CommandFault, next_word, read_command};
 use std::alloc::Global;
-
-/// How many bytes a line may have.
-pub(crate) const MOST_BYTES: usize = 65_536;
-
-/// How many bytes the name of an actor may have.
-const MOST_NAME_BYTES: usize = 16;
 
 /// What a line of a script is. Its newline, and a carriage return before that, are no part of it.
 ///
@@ -37,20 +33,20 @@ pub fn read_outline(alloc: Global, line: &[u8]) -> Result<Outline, Memory>
     if is_quiet(line) {
         return Ok(Outline::Plain(Line::Nothing));
     }
-    if line.len() > MOST_BYTES {
-        return Ok(Outline::Plain(bad_at(MOST_BYTES as u64 + 1)));
+    if line.len() > MOST_LINE_BYTES {
+        return Ok(Outline::Plain(bad_at(MOST_LINE_BYTES as u64 + 1)));
     }
     by_mark(alloc, line)
 }
 
 fn by_mark(alloc: Global, line: &[u8]) -> Result<Outline, Memory>
-    requires { length line.now ≤ 65536 }
+    requires { length line.now ≤ most_line_bytes }
     ensures exact { IfOk result (λ o. o ≡ by_mark line.now) }
     ensures within { IfOk result (IsWithin (length line.now)) }
 {
     match line {
         [] => Ok(Outline::Plain(bad_at(1))),
-        [b'!', text @ ..] => Ok(Outline::Plain(system_line(text)?)),
+        [b'!', text @ ..] => Ok(Outline::Plain(system_line(text))),
         [b'@', text @ ..] => Ok(Outline::Plain(user_line(alloc, text)?)),
         [_, ..] => session_line(alloc, line),
     }
@@ -62,15 +58,14 @@ fn bad_at(place: u64) -> Line
     Line::Bad(Refusal::BadLine(place))
 }
 
-fn system_line(text: &[u8]) -> Result<Line, Memory>
-    requires { length text.now ≤ 65536 }
-    ensures exact { IfOk result (λ l. l ≡ system_line (order text.now)) }
-    ensures read { IfOk result IsRead }
+fn system_line(text: &[u8]) -> Line
+    requires { length text.now ≤ most_line_bytes }
+    ensures exact { result ≡ system_line (order text.now) }
+    ensures placed { IsRead result }
 {
     match read_order(text) {
-        Ok(order) => Ok(Line::System(order)),
-        Err(CommandFault::BadCommand(place)) => Ok(bad_at(place + 1)),
-        Err(CommandFault::Memory) => Err(Memory),
+        Ok(order) => Line::System(order),
+        Err(bad) => bad_at(bad.place + 1),
     }
 }
 
@@ -85,9 +80,9 @@ pub(crate) fn word_len(text: &[u8]) -> usize
 // What stands behind an `@`.
 #[tactic(auto, unfolding(crate::specs::Outlines::user_line))]
 fn user_line(alloc: Global, text: &[u8]) -> Result<Line, Memory>
-    requires { length text.now ≤ 65536 }
+    requires { length text.now ≤ most_line_bytes }
     ensures exact { IfOk result (λ l. l ≡ user_line text.now) }
-    ensures read { IfOk result IsRead }
+    ensures placed { IfOk result IsRead }
 {
     let len = word_len(text);
     let (user, rest) = text.split_at(len);
@@ -100,9 +95,9 @@ fn user_line(alloc: Global, text: &[u8]) -> Result<Line, Memory>
 
 // A command behind so many bytes of the line.
 fn command_line(alloc: Global, user: Name, before: u64, text: &[u8]) -> Result<Line, Memory>
-    requires { before + length text.now ≤ 65537 }
+    requires { before + length text.now ≤ most_line_bytes + 1 }
     ensures exact { IfOk result (λ l. l ≡ file_line before (command user text.now)) }
-    ensures read { IfOk result IsRead }
+    ensures placed { IfOk result IsRead }
 {
     match read_command(alloc, user, text) {
         Ok(line) => Ok(Line::File(line)),
@@ -125,12 +120,12 @@ pub(crate) fn is_session(name: &[u8]) -> bool
     ensures value { result ≡ is_session name.now }
     ensures name { result ≡ true → IsName name.now }
 {
-    is_name(name) && name.len() <= MOST_NAME_BYTES
+    is_name(name) && name.len() <= MOST_ACTOR_NAME_BYTES
 }
 
 #[tactic(auto, unfolding(crate::specs::Outlines::session_line))]
 fn session_line(alloc: Global, line: &[u8]) -> Result<Outline, Memory>
-    requires { length line.now ≤ 65536 }
+    requires { length line.now ≤ most_line_bytes }
     ensures exact { IfOk result (λ o. o ≡ session_line line.now) }
     ensures within { IfOk result (IsWithin (length line.now)) }
 {
@@ -146,7 +141,7 @@ fn session_line(alloc: Global, line: &[u8]) -> Result<Outline, Memory>
 // What a session says whose name stands before the colon at an index.
 fn said(alloc: Global, line: &[u8], at: usize) -> Result<Outline, Memory>
     requires at { at < length line.now }
-    requires within { length line.now ≤ 65536 }
+    requires within { length line.now ≤ most_line_bytes }
     requires name { IsName (take at line.now) }
     ensures exact { IfOk result (λ o. o ≡ sentence (take at line.now) (at + 1) (drop (at + 1) line.now)) }
     ensures within { IfOk result (IsWithin (length line.now)) }
@@ -158,9 +153,9 @@ fn said(alloc: Global, line: &[u8], at: usize) -> Result<Outline, Memory>
 // What stands behind the colon of a session, and behind so many bytes of the line.
 #[tactic(auto, unfolding(crate::specs::Outlines::sentence))]
 fn sentence(name: Name, before: usize, text: &[u8]) -> Outline
-    requires { before + length text.now ≤ 65536 }
+    requires { before + length text.now ≤ most_line_bytes }
     ensures exact { result ≡ sentence name before text.now }
-    ensures within { (len : ℕ) → before ≤ len → len ≤ 65536 → IsWithin len result }
+    ensures within { (len : ℕ) → before ≤ len → len ≤ most_line_bytes → IsWithin len result }
 {
     let Ok(word) = next_word(text, 0) else {
         return Outline::Statement(name, before);
@@ -189,7 +184,7 @@ fn step_in(word: &[u8]) -> Option<Sentence>
 // A step of a session, where no word stands from an index on.
 fn step_line(name: Name, before: usize, step: Sentence, text: &[u8], at: usize) -> Outline
     requires at { at ≤ length text.now }
-    requires within { before + length text.now ≤ 65536 }
+    requires within { before + length text.now ≤ most_line_bytes }
     ensures exact { result ≡ by_step name before (Some step) (words_from at text.now) }
     ensures within { (len : ℕ) → IsWithin len result }
 {

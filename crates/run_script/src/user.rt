@@ -2,6 +2,7 @@
 ghost use Rattle.std.specs.Prelude.{◌≡◌, IfOk, true};
 ghost use Rattle.meaning_script.specs.Lines.{is_user};
 
+use dl_base::limits::MOST_ACTOR_NAME_BYTES;
 use dl_base::{Memory, Name, is_name};
 use std::alloc::Global;
 
@@ -10,7 +11,7 @@ use std::alloc::Global;
 pub(crate) fn is_user(name: &[u8]) -> bool
     ensures { result ≡ is_user name.now }
 {
-    is_name(name) && name.len() <= 16 && name != b"dlfm".as_slice()
+    is_name(name) && name.len() <= MOST_ACTOR_NAME_BYTES && name != b"dlfm".as_slice()
 }
 
 /// The name of a user.

@@ -70,6 +70,7 @@ impl Sessions {
         if may_act {
             self.by_line(alloc, given, line)
         } else {
+            drop(line);
             Ok(refused(Refusal::Limit(Limit::Actors)))
         }
     }
@@ -99,7 +100,11 @@ impl Sessions {
         ensures built { IfOk result AsksBuilt }
     {
         match sentence {
-            Sentence::Sql(stmt) => self.stated(alloc, given, &stmt),
+            Sentence::Sql(stmt) => {
+                let told = self.stated(alloc, given, &stmt);
+                drop(stmt);
+                told
+            }
             Sentence::Prepare | Sentence::Decide | Sentence::Finish => Ok(refused(
                 Refusal::NotBuilt,
             )),

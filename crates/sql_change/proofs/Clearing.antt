@@ -3,12 +3,11 @@ use Rattle.std.proofs.Common.{◌≡◌, Bool, true, List, [], ◌∷◌, Result
 use Rattle.std.specs.List.{zip}
 use Rattle.std.specs.Prelude.{is_ok}
 use Rattle.dl_base.specs.declared.sql_fault.SqlFault.{SqlFault}
-use Rattle.meaning_sql.specs.Faults.{◌>>=◌, next}
-use Rattle.meaning_statements.specs.Lists.{each}
+use Rattle.meaning_sql.specs.Faults.{◌>>=◌, and_then, try_map}
 use Rattle.sql_change.specs.Steps.{cleared}
 
 -- a step that gives something, and another that does not look at it
-pub passing : {A B : Type 0} (m : Result A SqlFault) (rest : Result B SqlFault) → is_ok m ≡ true → next m (λ x. rest) ≡ rest
+pub passing : {A B : Type 0} (m : Result A SqlFault) (rest : Result B SqlFault) → is_ok m ≡ true → and_then m (λ x. rest) ≡ rest
 passing (Ok x) rest passes = refl
 passing (Err e) rest passes = cc passes
 
@@ -22,9 +21,9 @@ first_passes (Ok y) rest later all then = more_pass y later (then all)
 first_passes (Err e) rest later all then = cc all
 
 -- none is refused
-pub pass_each : {A B : Type 0} (f : A → Result B SqlFault) (xs : List A) → cleared f xs ≡ Ok true → is_ok (each f xs) ≡ true
+pub pass_each : {A B : Type 0} (f : A → Result B SqlFault) (xs : List A) → cleared f xs ≡ Ok true → is_ok (try_map f xs) ≡ true
 pass_each f [] all = refl
-pass_each f (x ∷ xs) all = first_passes (f x) (cleared f xs) (each f xs) all (pass_each f xs)
+pass_each f (x ∷ xs) all = first_passes (f x) (cleared f xs) (try_map f xs) all (pass_each f xs)
 
 more_stop : {A : Type 0} (y : A) (m : Result (List A) SqlFault) (e : SqlFault) → m ≡ Err e → (m >>= λ ys. Ok (y ∷ ys)) ≡ Err e
 more_stop y m e is = rw is refl
@@ -35,9 +34,9 @@ first_stops (Ok y) rest later e stop then = more_stop y later e (then stop)
 first_stops (Err d) rest later e stop then = cc stop
 
 -- the first refusal is that of the steps
-pub stop_each : {A B : Type 0} (f : A → Result B SqlFault) (xs : List A) (e : SqlFault) → cleared f xs ≡ Err e → each f xs ≡ Err e
+pub stop_each : {A B : Type 0} (f : A → Result B SqlFault) (xs : List A) (e : SqlFault) → cleared f xs ≡ Err e → try_map f xs ≡ Err e
 stop_each f [] e stop = cc stop
-stop_each f (x ∷ xs) e stop = first_stops (f x) (cleared f xs) (each f xs) e stop (stop_each f xs e)
+stop_each f (x ∷ xs) e stop = first_stops (f x) (cleared f xs) (try_map f xs) e stop (stop_each f xs e)
 
 pub zip_none : {A B : Type 0} (xs : List A) (ys : List B) → ys ≡ [] → zip xs ys ≡ []
 zip_none [] ys none = refl

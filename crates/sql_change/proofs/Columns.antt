@@ -8,13 +8,13 @@ use Rattle.dl_base.specs.declared.column.Kind.{Kind}
 use Rattle.dl_base.specs.declared.sql_fault.SqlFault.{SqlFault}
 use Rattle.dl_base.specs.declared.sql_fault.SqlFault.TheVariants as faults
 use Rattle.dl_base.specs.declared.statement.ColumnDef.{ColumnDef}
-use Rattle.meaning_sql.specs.Faults.{◌>>=◌, next}
+use Rattle.meaning_sql.specs.Faults.{◌>>=◌, and_then}
 use Rattle.meaning_statements.specs.Creating.{columns_made, kind_made, rules_fit, rule_made}
 use Rattle.sql_change.proofs.Reversed.{any_named}
 
 -- the columns so far, and what later definitions make behind them
 abbrev pub made_of : List Column → Bool → List ColumnDef → Result (List Column) SqlFault
-made_of made keyed defs = next (columns_made (reverse (map (λ c. c.name) made)) keyed defs) (λ cs. Ok (made ++ cs))
+made_of made keyed defs = and_then (columns_made (reverse (map (λ c. c.name) made)) keyed defs) (λ cs. Ok (made ++ cs))
 
 pub name_again : (made : List Column) (keyed : Bool) (d : ColumnDef) (ds : List ColumnDef)
     → list_any (λ c. bytes_eq d.name c.name) made ≡ true → made_of made keyed (d ∷ ds) ≡ Err (faults.Ambiguous d.name)

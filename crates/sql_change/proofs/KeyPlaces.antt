@@ -8,7 +8,7 @@ use Rattle.std.proofs.lemmas.Option.{slice_get-get_or, slice_get_past}
 use Rattle.dl_base.specs.declared.column.Column.{Column}
 use Rattle.dl_base.specs.declared.value.Value.{Value}
 use Rattle.dl_base.specs.declared.value.Value.TheVariants as values
-use Rattle.meaning_statements.specs.Lists.{option_list}
+use Rattle.meaning_sql.specs.Faults.{option_list}
 use Rattle.meaning_tables.specs.Fits.{key_of, is_key}
 use Rattle.sql_change.proofs.KeyColumns.{no_key_past_the_end, key_column, other_column}
 

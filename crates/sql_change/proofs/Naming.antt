@@ -5,13 +5,13 @@ use Rattle.std.proofs.lemmas.List.{take_more}
 use Rattle.dl_base.specs.declared.column.Column.{Column}
 use Rattle.dl_base.specs.declared.sql_fault.SqlFault.{SqlFault}
 use Rattle.dl_base.specs.declared.sql_fault.SqlFault.TheVariants as faults
-use Rattle.meaning_sql.specs.Faults.{◌>>=◌, next}
+use Rattle.meaning_sql.specs.Faults.{◌>>=◌, and_then}
 use Rattle.meaning_statements.specs.Changing.{place_named, set_places}
 use Rattle.sql_change.proofs.Reversed.{any_reversed, reversed_push}
 
 -- the places so far, and those of later names behind them
 abbrev pub placed : List Column → List ℕ → List (List ℕ) → List (List ℕ) → Result (List ℕ) SqlFault
-placed columns places before later = next (set_places columns (reverse before) later) (λ ps. Ok (places ++ ps))
+placed columns places before later = and_then (set_places columns (reverse before) later) (λ ps. Ok (places ++ ps))
 
 pub named_again : (columns : List Column) (places : List ℕ) (before : List (List ℕ)) (n : List ℕ) (ns : List (List ℕ)) (p : ℕ)
     → place_named n 0 columns ≡ Ok p → list_any (bytes_eq n) before ≡ true → placed columns places before (n ∷ ns) ≡ Err (faults.Ambiguous n)

@@ -7,7 +7,7 @@ use Rattle.dl_base.specs.declared.value.Row.{Row}
 use Rattle.dl_base.specs.declared.value.Value.{Value}
 use Rattle.meaning_sql.specs.declared.Context.{Context}
 use Rattle.meaning_sql.specs.Columns.{Columns}
-use Rattle.meaning_sql.specs.Faults.{◌>>=◌, next}
+use Rattle.meaning_sql.specs.Faults.{◌>>=◌, and_then}
 use Rattle.meaning_statements.specs.Changing.{inserted_row, inserted_rows}
 use Rattle.sql_rows.specs.NewRows.{tuple_rows, counted}
 
@@ -32,7 +32,7 @@ one_more number (Ok row) numbers rows are = behind number row.0 (numbers row.1) 
 one_more number (Err e) numbers rows are = refl
 
 pub numbered : (context : Context) (seen : Columns) (at : Row) (columns : List Column) (places : List ℕ) (number k : ℕ) (tuples : List (List Expr))
-    → inserted_rows context seen at columns places number k tuples ≡ next (tuple_rows context seen at columns places k tuples) (under number)
+    → inserted_rows context seen at columns places number k tuples ≡ and_then (tuple_rows context seen at columns places k tuples) (under number)
 numbered context seen at columns places number k [] = refl
 numbered context seen at columns places number k (t ∷ ts) =
     one_more number (inserted_row context seen at columns places k t) (λ j. inserted_rows context seen at columns places (number + 1) j ts) (λ j. tuple_rows context seen at columns places j ts)

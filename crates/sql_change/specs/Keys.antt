@@ -6,7 +6,7 @@ use Rattle.std.specs.Ordering.{int_eq}
 use Rattle.dl_base.specs.declared.column.Column.{Column}
 use Rattle.dl_base.specs.declared.value.Value.{Value}
 use Rattle.dl_base.specs.declared.value.Value.TheVariants as values
-use Rattle.meaning_statements.specs.Lists.{option_list}
+use Rattle.meaning_sql.specs.Faults.{option_list}
 use Rattle.meaning_tables.specs.Fits.{same_key, key_of}
 
 -- the key is the value at a place

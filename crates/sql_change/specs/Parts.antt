@@ -1,19 +1,19 @@
--- INSERT, UPDATE and DELETE in parts: each is what is left to do of a statement once the parts before it are known. What is
--- made is the table, the next link number and the number of rows that were put in, met or removed.
-use Rattle.std.specs.Prelude.{ℕ, ◌+◌, ◌-◌, ◌^◌, ◌==◌, ◌&&◌, ◌++◌, Bool, List, [], length, map, Option, Result, Ok, nat_le}
+-- Steps of a proof, which nobody need read: with `told` they equal `insert`, `update` and `delete` of the meaning of statements
+-- (`Changing`). Each is what is left to do of a statement once the parts before it are known. What is made is the table, the next
+-- link number and the number of rows that were put in, met or removed.
+use Rattle.std.specs.Prelude.{ℕ, ◌+◌, ◌-◌, ◌==◌, ◌++◌, Bool, List, [], length, map, Option, Result, Ok}
 use Rattle.dl_base.specs.declared.answer.Limit.TheVariants as limits
 use Rattle.dl_base.specs.declared.sql_fault.SqlFault.{SqlFault}
 use Rattle.dl_base.specs.declared.sql_fault.SqlFault.TheVariants as faults
 use Rattle.dl_base.specs.declared.statement.Expr.{Expr}
 use Rattle.dl_base.specs.declared.value.Row.{Row}
 use Rattle.meaning_sql.specs.declared.Context.{Context}
-use Rattle.meaning_sql.specs.declared.Standing.TheVariants as standing
+use Rattle.meaning_sql.specs.declared.AggregateScope.TheVariants as scope
 use Rattle.meaning_sql.specs.Columns.{Columns}
-use Rattle.meaning_sql.specs.Faults.{◌>>=◌}
+use Rattle.meaning_sql.specs.Faults.{◌>>=◌, ensure, option_list, try_map}
 use Rattle.meaning_sql.specs.Types.{type_of}
-use Rattle.meaning_statements.specs.Changing.{Changed, keys_hold, set_places, target_places, assigned, inserted_rows, updated_rows, remaining}
-use Rattle.meaning_statements.specs.Conditions.{condition_type}
-use Rattle.meaning_statements.specs.Lists.{unless, option_list, each}
+use Rattle.meaning_statements.specs.Changing.{Changed, has_room, keys_hold, set_places, target_places, assigned, inserted_rows, updated_rows, remaining}
+use Rattle.meaning_sql.specs.Conditions.{condition_type}
 use Rattle.meaning_statements.specs.Sources.{no_row, own_columns}
 use Rattle.meaning_tables.specs.Tables.{Rows, Tables, with_table}
 
@@ -26,16 +26,13 @@ told tables name made = record { tables = with_table tables name made.0; next = 
 
 -- INSERT
 
-abbrev pub has_room : Rows → ℕ → Bool
-has_room t more = nat_le (length t.rows + more) 1000000 && nat_le (t.next + more) (2 ^ 63)
-
 abbrev pub grown_table : Rows → List (ℕ × Row) → ℕ → Rows
 grown_table t rows count = record t { next = t.next + count; rows = t.rows ++ rows }
 
 -- where there is room for the rows, and the keys differ
 unfoldable pub grown : Rows → List (ℕ × Row) → ℕ → ℕ → Result Made SqlFault
 grown t rows next count = do
-  room ← unless (has_room t count) (faults.Limit limits.Rows)
+  room ← ensure (has_room t count) (faults.Limit limits.Rows)
   keys ← keys_hold (grown_table t rows count)
   Ok (grown_table t rows count, (next, count))
 
@@ -48,14 +45,14 @@ filled seen at t places tuples context k = do
 -- once the tuples are of the right length
 unfoldable pub typed_in : Columns → Row → Rows → List ℕ → List (List Expr) → Context → ℕ → Result Made SqlFault
 typed_in seen at t places tuples context k = do
-  types ← each (each (type_of seen standing.Row)) tuples
-  fit ← each (assigned t.columns places) types
+  types ← try_map (try_map (type_of seen scope.Row)) tuples
+  fit ← try_map (assigned t.columns places) types
   filled seen at t places tuples context k
 
 -- once the places of the columns are known
 unfoldable pub put_in : Columns → Row → Rows → List ℕ → List (List Expr) → Context → ℕ → Result Made SqlFault
 put_in seen at t places tuples context k = do
-  lengths ← each (λ es. unless (length es == length places) faults.Arity) tuples
+  lengths ← try_map (λ es. ensure (length es == length places) faults.Arity) tuples
   typed_in seen at t places tuples context k
 
 unfoldable pub inserted : Rows → Option (List (List ℕ)) → List (List Expr) → Context → ℕ → Result Made SqlFault
@@ -83,8 +80,8 @@ set_rows columns t places sets filter context k = do
 -- once the places of the columns are known
 unfoldable pub set_at : Columns → Rows → List ℕ → List (List ℕ × Expr) → Option Expr → Context → ℕ → Result Made SqlFault
 set_at columns t places sets filter context k = do
-  types ← each (λ s. type_of columns standing.Row s.1) sets
-  conditions ← each (condition_type columns) (option_list filter)
+  types ← try_map (λ s. type_of columns scope.Row s.1) sets
+  conditions ← try_map (condition_type columns) (option_list filter)
   fit ← assigned t.columns places types
   set_rows columns t places sets filter context k
 
@@ -97,7 +94,7 @@ updated name t sets filter context k = do
 
 unfoldable pub left_over : Columns → Rows → Option Expr → Context → ℕ → Result Made SqlFault
 left_over columns t filter context k = do
-  types ← each (condition_type columns) (option_list filter)
+  types ← try_map (condition_type columns) (option_list filter)
   rows ← remaining columns context (option_list filter) t.rows
   Ok (with_rows t rows, (k, length t.rows - length rows))
 

@@ -1,8 +1,9 @@
 // A statement as a whole: the new table is built beside the old one, and put in its place as the last step, which takes no
 // memory.
-ghost use Rattle.std.specs.Prelude.{◌≡◌, ◌≢◌, ◌≤◌, IfOk, IfErr, OnErr, OnOk, Ok, Err, ℕ};
+ghost use Rattle.std.specs.Prelude.{◌≡◌, ◌≢◌, ◌≤◌, IfOk, IfErr, OnErr, OnOk, Ok, Err, ℕ, suc};
+ghost use Rattle.dl_base.specs.Limits.{most_links};
 ghost use Rattle.dl_base.specs.declared.sql_fault.SqlFault.TheVariants as faults;
-ghost use Rattle.meaning_sql.specs.Faults.{Gives};
+ghost use Rattle.meaning_sql.specs.Faults.{Computes};
 ghost use Rattle.meaning_statements.specs.Changing as meant;
 ghost use Rattle.meaning_statements.specs.Sources.{present};
 ghost use Rattle.meaning_tables.specs.Tables.{table_of, with_table};
@@ -10,14 +11,11 @@ ghost use Rattle.meaning_tables.specs.Tables.{table_of, with_table};
 use crate::creating::columns_made;
 use crate::inserting::inserted;
 use crate::updating::{deleted, updated};
+use dl_base::limits::{MOST_COLUMNS, MOST_TABLES};
 use dl_base::{ColumnDef, Expr, Limit, List, Memory, Name, SqlFault, Stmt};
 use sql_expr::Context;
 use sql_table::{Table, Tables};
 use std::alloc::Global;
-
-const MOST_TABLES: usize = 256;
-
-const MOST_COLUMNS: usize = 64;
 
 /// What a statement makes of its table, the next link number, and the number of rows that it put in, met or removed.
 #[derive(Drop)]
@@ -38,11 +36,11 @@ pub fn change(
     context: &Context,
     next_link: &mut u32,
 ) -> Result<u64, SqlFault>
-    requires { next_link.old ≤ 1000001 }
+    requires { next_link.old ≤ suc most_links }
     ensures ok { IfOk result (λ count. meant.change tables.old stmt.now context.entry.now next_link.old ≡ Ok (record { tables = tables.new; next = next_link.new; count = count })) }
     ensures refused { IfErr result (λ e. e ≢ faults.Memory → meant.change tables.old stmt.now context.entry.now next_link.old ≡ Err e) }
     ensures unchanged { OnErr result ((tables.new ≡ tables.old) × (next_link.new ≡ next_link.old)) }
-    ensures few { next_link.new ≤ 1000001 }
+    ensures few { next_link.new ≤ suc most_links }
 {
     match stmt {
         Stmt::CreateTable(name, columns) => {
@@ -115,7 +113,7 @@ fn drop_table(tables: &mut Tables, name: &Name) -> Result<(), SqlFault>
 
 // The table of a name.
 fn found<'a>(tables: &'a Tables, name: &Name) -> Result<&'a Table, SqlFault>
-    ensures { Gives (λ t. t.now) result (present name.now (table_of tables.now name.now)) }
+    ensures { Computes (λ t. t.now) result (present name.now (table_of tables.now name.now)) }
 {
     match tables.table(name) {
         Some(table) => Ok(table),
@@ -133,11 +131,11 @@ fn insert(
     context: &Context,
     next_link: &mut u32,
 ) -> Result<u64, SqlFault>
-    requires { next_link.old ≤ 1000001 }
+    requires { next_link.old ≤ suc most_links }
     ensures ok { IfOk result (λ count. meant.insert tables.old name.now names.now tuples.now context.entry.now next_link.old ≡ Ok (record { tables = tables.new; next = next_link.new; count = count })) }
     ensures refused { IfErr result (λ e. e ≢ faults.Memory → meant.insert tables.old name.now names.now tuples.now context.entry.now next_link.old ≡ Err e) }
     ensures unchanged { OnErr result ((tables.new ≡ tables.old) × (next_link.new ≡ next_link.old)) }
-    ensures few { next_link.new ≤ 1000001 }
+    ensures few { next_link.new ≤ suc most_links }
 {
     let made = inserted(
         alloc,
@@ -160,11 +158,11 @@ fn update(
     context: &Context,
     next_link: &mut u32,
 ) -> Result<u64, SqlFault>
-    requires { next_link.old ≤ 1000001 }
+    requires { next_link.old ≤ suc most_links }
     ensures ok { IfOk result (λ count. meant.update tables.old name.now sets.now filter.now context.entry.now next_link.old ≡ Ok (record { tables = tables.new; next = next_link.new; count = count })) }
     ensures refused { IfErr result (λ e. e ≢ faults.Memory → meant.update tables.old name.now sets.now filter.now context.entry.now next_link.old ≡ Err e) }
     ensures unchanged { OnErr result ((tables.new ≡ tables.old) × (next_link.new ≡ next_link.old)) }
-    ensures few { next_link.new ≤ 1000001 }
+    ensures few { next_link.new ≤ suc most_links }
 {
     let made = updated(
         alloc,
@@ -187,11 +185,11 @@ fn delete(
     context: &Context,
     next_link: &mut u32,
 ) -> Result<u64, SqlFault>
-    requires { next_link.old ≤ 1000001 }
+    requires { next_link.old ≤ suc most_links }
     ensures ok { IfOk result (λ count. meant.delete tables.old name.now filter.now context.entry.now next_link.old ≡ Ok (record { tables = tables.new; next = next_link.new; count = count })) }
     ensures refused { IfErr result (λ e. e ≢ faults.Memory → meant.delete tables.old name.now filter.now context.entry.now next_link.old ≡ Err e) }
     ensures unchanged { OnErr result ((tables.new ≡ tables.old) × (next_link.new ≡ next_link.old)) }
-    ensures few { next_link.new ≤ 1000001 }
+    ensures few { next_link.new ≤ suc most_links }
 {
     let made = deleted(
         alloc,

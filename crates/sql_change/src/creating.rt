@@ -1,7 +1,7 @@
 // The columns that CREATE TABLE makes.
 ghost use Rattle.std.specs.Prelude.{◌≡◌, ◌||◌, [], false, bytes_eq, nat_lt, IfOk};
 ghost use Rattle.std.specs.List.{list_any};
-ghost use Rattle.meaning_sql.specs.Faults.{Gives};
+ghost use Rattle.meaning_sql.specs.Faults.{Computes};
 ghost use Rattle.meaning_statements.specs.Creating as meant;
 
 use dl_base::{
@@ -15,7 +15,7 @@ use std::alloc::Global;
 /// `BadOptions` for options and rules that do not fit, or `Memory`.
 #[tactic(auto, using(crate::proofs::Reversed::any_named))]
 pub(crate) fn columns_made(alloc: Global, defs: &List<ColumnDef>) -> Result<List<Column>, SqlFault>
-    ensures { Gives (λ c. c) result (meant.columns_made [] false defs.now) }
+    ensures { Computes (λ c. c) result (meant.columns_made [] false defs.now) }
 {
     let mut made = List::empty(alloc);
     let mut keyed = false;
@@ -63,7 +63,7 @@ fn stands(columns: &[Column], name: &Name) -> bool
 }
 
 fn kind_made(name: &Name, def: KindDef) -> Result<Kind, SqlFault>
-    ensures { Gives (λ k. k) result (meant.kind_made name.now def) }
+    ensures { Computes (λ k. k) result (meant.kind_made name.now def) }
 {
     match def {
         KindDef::Integer => Ok(Kind::Int),
@@ -89,7 +89,7 @@ fn kind_made(name: &Name, def: KindDef) -> Result<Kind, SqlFault>
 
 // A length from 1 to 4,000 bytes.
 fn text_kind(name: &Name, length: i64) -> Result<Kind, SqlFault>
-    ensures { Gives (λ k. k) result (meant.text_kind name.now length) }
+    ensures { Computes (λ k. k) result (meant.text_kind name.now length) }
 {
     if 1 <= length && length <= 4000 {
         Ok(Kind::Text(length as u32))
@@ -100,7 +100,7 @@ fn text_kind(name: &Name, length: i64) -> Result<Kind, SqlFault>
 
 // INTEGRITY ALL and one of the seven rows.
 fn controlled(integrity: Integrity, options: Options) -> Result<Kind, SqlFault>
-    ensures { Gives (λ k. k) result (meant.controlled integrity options) }
+    ensures { Computes (λ k. k) result (meant.controlled integrity options) }
 {
     if is_all(integrity) && is_option_row(&options) {
         Ok(Kind::Linked(options))

@@ -1,7 +1,8 @@
 // INSERT: the rows of its tuples, and the table with them.
-ghost use Rattle.std.specs.Prelude.{◌≡◌, ◌+◌, ◌<◌, ◌≤◌, ◌^◌, IfOk, IfErr, length};
+ghost use Rattle.std.specs.Prelude.{◌≡◌, ◌+◌, ◌≤◌, IfOk, IfErr, length, suc};
+ghost use Rattle.dl_base.specs.Limits.{most_links, most_rows, row_numbers};
 ghost use Rattle.dl_base.specs.declared.sql_fault.SqlFault.TheVariants as faults;
-ghost use Rattle.meaning_sql.specs.Faults.{Gives};
+ghost use Rattle.meaning_sql.specs.Faults.{Computes};
 ghost use Rattle.meaning_statements.specs.Changing as meant;
 ghost use Rattle.sql_rows.specs.NewRows.{counted};
 ghost use Rattle.sql_change.specs.Parts as parts;
@@ -9,15 +10,12 @@ ghost use Rattle.sql_change.specs.Parts as parts;
 use crate::changing::Outcome;
 use crate::keys::check_keys;
 use crate::places::{check_all_types, check_lengths, target_places, tuple_types};
+use dl_base::limits::{MOST_ROWS, ROW_NUMBERS};
 use dl_base::{Copied, Expr, Limit, List, Name, Row, SqlFault};
 use sql_expr::{Columns, Context};
-use sql_rows::{NewRows, tuple_rows, with_more};
+use sql_rows::{NewRows, tuple_rows};
 use sql_table::Table;
 use std::alloc::Global;
-
-const MOST_ROWS: usize = 1_000_000;
-// Row numbers are below 2^63.
-const MOST_NUMBERS: u64 = 9_223_372_036_854_775_808;
 
 /// What an INSERT makes of its table.
 #[tactic(auto, unfolding(crate::specs::Parts::inserted))]
@@ -29,9 +27,9 @@ pub(crate) fn inserted(
     context: &Context,
     k: u32,
 ) -> Result<Outcome, SqlFault>
-    requires { k ≤ 1000001 }
-    ensures made { Gives (λ m. (m.table, (m.next, m.count))) result (parts.inserted table.now names.now tuples.now context.entry.now k) }
-    ensures few { IfOk result (λ m. m.next ≤ 1000001) }
+    requires { k ≤ suc most_links }
+    ensures made { Computes (λ m. (m.table, (m.next, m.count))) result (parts.inserted table.now names.now tuples.now context.entry.now k) }
+    ensures few { IfOk result (λ m. m.next ≤ suc most_links) }
 {
     let seen: Columns = List::empty(alloc);
     let at = Row {
@@ -53,9 +51,9 @@ fn put_in(
     context: &Context,
     k: u32,
 ) -> Result<Outcome, SqlFault>
-    requires { k ≤ 1000001 }
-    ensures made { Gives (λ m. (m.table, (m.next, m.count))) result (parts.put_in seen.now at.now table.now places.now tuples.now context.entry.now k) }
-    ensures few { IfOk result (λ m. m.next ≤ 1000001) }
+    requires { k ≤ suc most_links }
+    ensures made { Computes (λ m. (m.table, (m.next, m.count))) result (parts.put_in seen.now at.now table.now places.now tuples.now context.entry.now k) }
+    ensures few { IfOk result (λ m. m.next ≤ suc most_links) }
 {
     check_lengths(tuples, places)?;
     typed_in(alloc, seen, at, table, places, tuples, context, k)
@@ -73,9 +71,9 @@ fn typed_in(
     context: &Context,
     k: u32,
 ) -> Result<Outcome, SqlFault>
-    requires { k ≤ 1000001 }
-    ensures made { Gives (λ m. (m.table, (m.next, m.count))) result (parts.typed_in seen.now at.now table.now places.now tuples.now context.entry.now k) }
-    ensures few { IfOk result (λ m. m.next ≤ 1000001) }
+    requires { k ≤ suc most_links }
+    ensures made { Computes (λ m. (m.table, (m.next, m.count))) result (parts.typed_in seen.now at.now table.now places.now tuples.now context.entry.now k) }
+    ensures few { IfOk result (λ m. m.next ≤ suc most_links) }
 {
     let types = tuple_types(alloc, tuples, seen)?;
     check_all_types(table.columns(), places, &types)?;
@@ -94,9 +92,9 @@ fn filled(
     context: &Context,
     k: u32,
 ) -> Result<Outcome, SqlFault>
-    requires { k ≤ 1000001 }
-    ensures made { Gives (λ m. (m.table, (m.next, m.count))) result (parts.filled seen.now at.now table.now places.now tuples.now context.entry.now k) }
-    ensures few { IfOk result (λ m. m.next ≤ 1000001) }
+    requires { k ≤ suc most_links }
+    ensures made { Computes (λ m. (m.table, (m.next, m.count))) result (parts.filled seen.now at.now table.now places.now tuples.now context.entry.now k) }
+    ensures few { IfOk result (λ m. m.next ≤ suc most_links) }
 {
     let made = new_rows(alloc, seen, at, table, places, tuples, context, k)?;
     grown(alloc, table, made)
@@ -114,9 +112,9 @@ fn new_rows(
     context: &Context,
     k: u32,
 ) -> Result<NewRows, SqlFault>
-    requires { k ≤ 1000001 }
-    ensures put { Gives (λ p. (counted table.now.next p.rows, p.next)) result (meant.inserted_rows context.entry.now seen.now at.now table.now.columns places.now table.now.next k tuples.now) }
-    ensures few { IfOk result (λ p. p.next ≤ 1000001) }
+    requires { k ≤ suc most_links }
+    ensures put { Computes (λ p. (counted table.now.next p.rows, p.next)) result (meant.inserted_rows context.entry.now seen.now at.now table.now.columns places.now table.now.next k tuples.now) }
+    ensures few { IfOk result (λ p. p.next ≤ suc most_links) }
     ensures one_each { IfOk result (λ p. length p.rows ≡ length tuples.now) }
 {
     let made = tuple_rows(alloc, context, seen, at, table.columns(), places, k, tuples)?;
@@ -124,24 +122,24 @@ fn new_rows(
 }
 
 fn has_room(table: &Table, more: usize) -> bool
-    ensures { result ≡ parts.has_room table.now more }
+    ensures { result ≡ meant.has_room table.now more }
 {
     more <= MOST_ROWS
         && table.len() <= MOST_ROWS - more
-        && table.next_number() <= MOST_NUMBERS - more as u64
+        && table.next_number() <= ROW_NUMBERS - more as u64
 }
 
 // A table with more rows, where there is room for them and the keys differ.
 #[tactic(auto, unfolding(crate::specs::Parts::grown))]
 fn grown(alloc: Global, table: &Table, made: NewRows) -> Result<Outcome, SqlFault>
-    ensures made { Gives (λ m. (m.table, (m.next, m.count))) result (parts.grown table.now (counted table.now.next made.rows) made.next (length made.rows)) }
+    ensures made { Computes (λ m. (m.table, (m.next, m.count))) result (parts.grown table.now (counted table.now.next made.rows) made.next (length made.rows)) }
     ensures next { IfOk result (λ m. m.next ≡ made.next) }
 {
     if !has_room(table, made.rows.len()) {
         return Err(SqlFault::Limit(Limit::Rows));
     }
     let count = made.rows.len() as u64;
-    let after = with_new_rows(alloc, table, made.rows)?;
+    let after = with_new_rows(table, made.rows)?;
     check_keys(alloc, &after)?;
     Ok(Outcome {
         table: after,
@@ -150,13 +148,16 @@ fn grown(alloc: Global, table: &Table, made: NewRows) -> Result<Outcome, SqlFaul
     })
 }
 
-fn with_new_rows(alloc: Global, table: &Table, more: List<Row>) -> Result<Table, SqlFault>
-    requires { table.now.next + length more < 2 ^ 64 }
+// A copy of the table with more rows; the copy shares what it has with the table.
+fn with_new_rows(table: &Table, more: List<Row>) -> Result<Table, SqlFault>
+    requires few { length table.now.rows + length more ≤ most_rows }
+    requires small { table.now.next + length more ≤ row_numbers }
     ensures table { IfOk result (λ made. made ≡ parts.grown_table table.now (counted table.now.next more) (length more)) }
     ensures memory { IfErr result (λ e. e ≡ faults.Memory) }
 {
-    let count = more.len() as u64;
-    let rows = with_more(alloc, table, more)?;
-    let columns = table.columns().copy()?;
-    Ok(Table::with_rows(table.version(), columns, table.next_number() + count, rows)?)
+    let mut made = table.copy()?;
+    for row in more.into_vec() {
+        made.put_next(row)?;
+    }
+    Ok(made)
 }

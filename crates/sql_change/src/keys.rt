@@ -4,7 +4,7 @@ ghost use Rattle.std.specs.Bool.{OnTrue};
 ghost use Rattle.std.specs.Cmp.Lexicographic.{pointwise};
 ghost use Rattle.std.specs.List.{list_any};
 ghost use Rattle.std.specs.Ordering.{int_eq};
-ghost use Rattle.meaning_sql.specs.Faults.{Gives};
+ghost use Rattle.meaning_sql.specs.Faults.{Computes};
 ghost use Rattle.meaning_statements.specs.Changing.{keys_hold, duplicate};
 ghost use Rattle.meaning_tables.specs.Fits as meant;
 ghost use Rattle.sql_change.specs.Keys.{HaveStood, IsKeyAt, StoodKeys};
@@ -17,7 +17,7 @@ use std::collections::HashSet;
 /// Whether the keys of a table's rows differ: `DupKey` with the number of the first row whose key is that of an earlier row, or
 /// `Memory`. A table without a key column has no keys.
 pub(crate) fn check_keys(alloc: Global, table: &Table) -> Result<(), SqlFault>
-    ensures { Gives (λ u. true) result (keys_hold table.now) }
+    ensures { Computes (λ u. true) result (keys_hold table.now) }
 {
     let columns = table.columns();
     if !has_key(columns.as_slice()) {
@@ -47,7 +47,7 @@ fn only_key(columns: &List<Column>) -> Option<usize>
 // The keys in a table whose key is the value at one place: each is looked for among those that have stood.
 fn check_one(alloc: Global, table: &Table, place: usize) -> Result<(), SqlFault>
     requires { IsKeyAt table.now.columns place }
-    ensures { Gives (λ u. true) result (duplicate (meant.repeated table.now.columns [] table.now.rows)) }
+    ensures { Computes (λ u. true) result (duplicate (meant.repeated table.now.columns [] table.now.rows)) }
 {
     let mut numbers = HashSet::new(alloc);
     let mut texts = HashSet::new(alloc);
@@ -100,7 +100,7 @@ fn text_is_new<'a>(texts: &mut HashSet<&'a [u8]>, text: &'a [u8]) -> Result<bool
 // The keys in any table: each is compared with all that have stood.
 #[tactic(auto, using(crate::proofs::Reversed::any_reversed, crate::proofs::Reversed::reversed_push))]
 fn check_all(alloc: Global, table: &Table) -> Result<(), SqlFault>
-    ensures { Gives (λ u. true) result (duplicate (meant.repeated table.now.columns [] table.now.rows)) }
+    ensures { Computes (λ u. true) result (duplicate (meant.repeated table.now.columns [] table.now.rows)) }
 {
     let mut keys = List::empty(alloc);
     for i in 0..table.len() {

@@ -6,9 +6,7 @@ mod creating;
 mod inserting;
 mod keys;
 mod places;
-#[cfg(test)]
-mod tests;
 mod updating;
 
 pub use changing::change;
-pub use sql_links::{gives_takes, links};
+pub use sql_table::{gives_takes, links};

@@ -2,15 +2,14 @@
 ghost use Rattle.std.specs.Prelude.{◌≡◌, ◌==◌, ◌≤◌, [], IfOk, length, take, map, bytes_eq};
 ghost use Rattle.std.specs.List.{list_any};
 ghost use Rattle.dl_base.specs.declared.sql_fault.SqlFault.TheVariants as faults;
-ghost use Rattle.meaning_sql.specs.Faults.{Gives};
+ghost use Rattle.meaning_sql.specs.Faults.{Computes, try_map, ensure};
 ghost use Rattle.meaning_sql.specs.Types as types_meant;
 ghost use Rattle.meaning_statements.specs.Assigning as cells_meant;
 ghost use Rattle.meaning_statements.specs.Changing as meant;
-ghost use Rattle.meaning_statements.specs.Lists.{each, unless};
 ghost use Rattle.sql_change.specs.Steps.{Clears};
 
 use dl_base::{Column, Copied, Expr, Kind, List, Memory, Name, SqlFault};
-use sql_expr::{Columns, SqlType, Standing, check_in};
+use sql_expr::{AggregateScope, Columns, SqlType, check_in};
 use std::alloc::Global;
 
 /// The columns of a table under its name.
@@ -36,7 +35,7 @@ fn named(name: &Name, column: &Column) -> Result<(Name, Column), Memory>
 
 // The place from 0 of the first column of a name.
 fn place_named(name: &Name, columns: &List<Column>) -> Result<usize, SqlFault>
-    ensures { Gives (λ i. i) result (meant.place_named name.now 0 columns.now) }
+    ensures { Computes (λ i. i) result (meant.place_named name.now 0 columns.now) }
 {
     for (i, column) in columns.as_slice().iter().enumerate() {
         if name.bytes() == column.name.bytes() {
@@ -53,7 +52,7 @@ pub(crate) fn set_places(
     columns: &List<Column>,
     names: &List<Name>,
 ) -> Result<List<usize>, SqlFault>
-    ensures { Gives (λ p. p) result (meant.set_places columns.now [] names.now) }
+    ensures { Computes (λ p. p) result (meant.set_places columns.now [] names.now) }
 {
     let mut places = List::empty(alloc);
     for (i, name) in names.as_slice().iter().enumerate() {
@@ -91,7 +90,7 @@ pub(crate) fn target_places(
     columns: &List<Column>,
     names: &Option<List<Name>>,
 ) -> Result<List<usize>, SqlFault>
-    ensures { Gives (λ p. p) result (meant.target_places columns.now names.now) }
+    ensures { Computes (λ p. p) result (meant.target_places columns.now names.now) }
 {
     match names {
         Some(listed) => set_places(alloc, columns, listed),
@@ -112,7 +111,7 @@ pub(crate) fn set_names(alloc: Global, sets: &List<(Name, Expr)>) -> Result<List
 
 /// Whether each tuple has a value for each of the places; `Arity` where one has not.
 pub(crate) fn check_lengths(tuples: &List<List<Expr>>, places: &List<usize>) -> Result<(), SqlFault>
-    ensures { Clears result (each (λ es. unless (length es == length places.now) faults.Arity) tuples.now) }
+    ensures { Clears result (try_map (λ es. ensure (length es == length places.now) faults.Arity) tuples.now) }
 {
     let count = places.len();
     for tuple in tuples.as_slice() {
@@ -125,11 +124,11 @@ pub(crate) fn check_lengths(tuples: &List<List<Expr>>, places: &List<usize>) -> 
 
 // The types of expressions over columns, without aggregates.
 fn types_of(alloc: Global, exprs: &List<Expr>, columns: &Columns) -> Result<List<SqlType>, SqlFault>
-    ensures { Gives (λ t. t) result (each (types_meant.type_of columns.now Standing.Row) exprs.now) }
+    ensures { Computes (λ t. t) result (try_map (types_meant.type_of columns.now AggregateScope.Row) exprs.now) }
 {
     let mut types = List::empty(alloc);
     for expr in exprs.as_slice() {
-        types.push(check_in(expr, columns, &Standing::Row)?)?;
+        types.push(check_in(expr, columns, &AggregateScope::Row)?)?;
     }
     Ok(types)
 }
@@ -140,7 +139,7 @@ pub(crate) fn tuple_types(
     tuples: &List<List<Expr>>,
     columns: &Columns,
 ) -> Result<List<List<SqlType>>, SqlFault>
-    ensures { Gives (λ t. t) result (each (each (types_meant.type_of columns.now Standing.Row)) tuples.now) }
+    ensures { Computes (λ t. t) result (try_map (try_map (types_meant.type_of columns.now AggregateScope.Row)) tuples.now) }
 {
     let mut types = List::empty(alloc);
     for tuple in tuples.as_slice() {
@@ -155,11 +154,11 @@ pub(crate) fn types_of_sets(
     sets: &List<(Name, Expr)>,
     columns: &Columns,
 ) -> Result<List<SqlType>, SqlFault>
-    ensures { Gives (λ t. t) result (each (λ s. types_meant.type_of columns.now Standing.Row s.1) sets.now) }
+    ensures { Computes (λ t. t) result (try_map (λ s. types_meant.type_of columns.now AggregateScope.Row s.1) sets.now) }
 {
     let mut types = List::empty(alloc);
     for set in sets.as_slice() {
-        types.push(check_in(&set.1, columns, &Standing::Row)?)?;
+        types.push(check_in(&set.1, columns, &AggregateScope::Row)?)?;
     }
     Ok(types)
 }
@@ -191,7 +190,7 @@ pub(crate) fn check_all_types(
     places: &List<usize>,
     types: &List<List<SqlType>>,
 ) -> Result<(), SqlFault>
-    ensures { Clears result (each (meant.assigned columns.now places.now) types.now) }
+    ensures { Clears result (try_map (meant.assigned columns.now places.now) types.now) }
 {
     for one in types.as_slice() {
         match check_types(columns, places, one) {

@@ -1,7 +1,8 @@
 // UPDATE and DELETE: the rows of a table after them.
-ghost use Rattle.std.specs.Prelude.{◌≡◌, ◌≤◌, IfOk, IfErr};
+ghost use Rattle.std.specs.Prelude.{◌≡◌, ◌≤◌, IfOk, IfErr, suc};
+ghost use Rattle.dl_base.specs.Limits.{most_links};
 ghost use Rattle.dl_base.specs.declared.sql_fault.SqlFault.TheVariants as faults;
-ghost use Rattle.meaning_sql.specs.Faults.{Gives};
+ghost use Rattle.meaning_sql.specs.Faults.{Computes};
 ghost use Rattle.meaning_statements.specs.Sources as sources_meant;
 ghost use Rattle.meaning_tables.specs.Tables.{Rise};
 ghost use Rattle.sql_change.specs.Parts as parts;
@@ -10,8 +11,7 @@ use crate::changing::Outcome;
 use crate::keys::check_keys;
 use crate::places::{check_types, own_columns, set_names, set_places, types_of_sets};
 use dl_base::{Copied, Expr, List, Name, Row, SqlFault};
-use sql_condition::filter_type;
-use sql_expr::{Columns, Context};
+use sql_expr::{Columns, Context, filter_type};
 use sql_rows::{Updated, remaining, updated_rows};
 use sql_table::Table;
 use std::alloc::Global;
@@ -27,9 +27,9 @@ pub(crate) fn updated(
     context: &Context,
     k: u32,
 ) -> Result<Outcome, SqlFault>
-    requires { k ≤ 1000001 }
-    ensures made { Gives (λ m. (m.table, (m.next, m.count))) result (parts.updated name.now table.now sets.now filter.now context.entry.now k) }
-    ensures few { IfOk result (λ m. m.next ≤ 1000001) }
+    requires { k ≤ suc most_links }
+    ensures made { Computes (λ m. (m.table, (m.next, m.count))) result (parts.updated name.now table.now sets.now filter.now context.entry.now k) }
+    ensures few { IfOk result (λ m. m.next ≤ suc most_links) }
 {
     let names = set_names(alloc, sets)?;
     let places = set_places(alloc, table.columns(), &names)?;
@@ -47,9 +47,9 @@ fn set_under(
     context: &Context,
     k: u32,
 ) -> Result<Outcome, SqlFault>
-    requires { k ≤ 1000001 }
-    ensures made { Gives (λ m. (m.table, (m.next, m.count))) result (parts.set_at (sources_meant.own_columns name.now table.now) table.now places.now sets.now filter.now context.entry.now k) }
-    ensures few { IfOk result (λ m. m.next ≤ 1000001) }
+    requires { k ≤ suc most_links }
+    ensures made { Computes (λ m. (m.table, (m.next, m.count))) result (parts.set_at (sources_meant.own_columns name.now table.now) table.now places.now sets.now filter.now context.entry.now k) }
+    ensures few { IfOk result (λ m. m.next ≤ suc most_links) }
 {
     let columns = own_columns(alloc, name, table.columns())?;
     set_at(alloc, &columns, table, places, sets, filter, context, k)
@@ -66,9 +66,9 @@ fn set_at(
     context: &Context,
     k: u32,
 ) -> Result<Outcome, SqlFault>
-    requires { k ≤ 1000001 }
-    ensures made { Gives (λ m. (m.table, (m.next, m.count))) result (parts.set_at columns.now table.now places.now sets.now filter.now context.entry.now k) }
-    ensures few { IfOk result (λ m. m.next ≤ 1000001) }
+    requires { k ≤ suc most_links }
+    ensures made { Computes (λ m. (m.table, (m.next, m.count))) result (parts.set_at columns.now table.now places.now sets.now filter.now context.entry.now k) }
+    ensures few { IfOk result (λ m. m.next ≤ suc most_links) }
 {
     let types = types_of_sets(alloc, sets, columns)?;
     filter_type(columns, filter)?;
@@ -88,9 +88,9 @@ fn set_rows(
     context: &Context,
     k: u32,
 ) -> Result<Outcome, SqlFault>
-    requires { k ≤ 1000001 }
-    ensures made { Gives (λ m. (m.table, (m.next, m.count))) result (parts.set_rows columns.now table.now places.now sets.now filter.now context.entry.now k) }
-    ensures few { IfOk result (λ m. m.next ≤ 1000001) }
+    requires { k ≤ suc most_links }
+    ensures made { Computes (λ m. (m.table, (m.next, m.count))) result (parts.set_rows columns.now table.now places.now sets.now filter.now context.entry.now k) }
+    ensures few { IfOk result (λ m. m.next ≤ suc most_links) }
 {
     let made = updated_rows(alloc, table, columns, context, filter, places, sets, k)?;
     replaced(alloc, table, made)
@@ -100,7 +100,7 @@ fn set_rows(
 #[tactic(auto, unfolding(crate::specs::Parts::replaced))]
 fn replaced(alloc: Global, table: &Table, made: Updated) -> Result<Outcome, SqlFault>
     requires { Rise 0 table.now.next made.rows }
-    ensures made { Gives (λ m. (m.table, (m.next, m.count))) result (parts.replaced table.now made.rows made.next made.met) }
+    ensures made { Computes (λ m. (m.table, (m.next, m.count))) result (parts.replaced table.now made.rows made.next made.met) }
     ensures next { IfOk result (λ m. m.next ≡ made.next) }
 {
     let after = with_rows(table, made.rows)?;
@@ -130,9 +130,9 @@ pub(crate) fn deleted(
     context: &Context,
     k: u32,
 ) -> Result<Outcome, SqlFault>
-    requires { k ≤ 1000001 }
-    ensures made { Gives (λ m. (m.table, (m.next, m.count))) result (parts.deleted name.now table.now filter.now context.entry.now k) }
-    ensures few { IfOk result (λ m. m.next ≤ 1000001) }
+    requires { k ≤ suc most_links }
+    ensures made { Computes (λ m. (m.table, (m.next, m.count))) result (parts.deleted name.now table.now filter.now context.entry.now k) }
+    ensures few { IfOk result (λ m. m.next ≤ suc most_links) }
 {
     let columns = own_columns(alloc, name, table.columns())?;
     left_over(alloc, &columns, table, filter, context, k)
@@ -147,9 +147,9 @@ fn left_over(
     context: &Context,
     k: u32,
 ) -> Result<Outcome, SqlFault>
-    requires { k ≤ 1000001 }
-    ensures made { Gives (λ m. (m.table, (m.next, m.count))) result (parts.left_over columns.now table.now filter.now context.entry.now k) }
-    ensures few { IfOk result (λ m. m.next ≤ 1000001) }
+    requires { k ≤ suc most_links }
+    ensures made { Computes (λ m. (m.table, (m.next, m.count))) result (parts.left_over columns.now table.now filter.now context.entry.now k) }
+    ensures few { IfOk result (λ m. m.next ≤ suc most_links) }
 {
     filter_type(columns, filter)?;
     let rows = remaining(alloc, table, columns, context, filter)?;

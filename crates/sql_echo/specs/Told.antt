@@ -1,4 +1,4 @@
--- What is told of a text.
+-- What is printed: what is told of a text. Read Parsing of sql_syntax and Writing of sql_print first.
 use Rattle.std.specs.Prelude.{◌≡◌, ◌++◌, ℕ, List, Result, Ok, Err, codes, decimal}
 use Rattle.dl_base.specs.declared.statement.Stmt.{Stmt}
 use Rattle.sql_print.specs.Writing.{text_of}

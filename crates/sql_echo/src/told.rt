@@ -8,14 +8,21 @@ use dl_base::{List, Memory, Stmt, Text};
 use sql_syntax::{ParseFault, parse, print, print_again};
 use std::alloc::Global;
 
+// Appends a number in decimal.
+fn put_number(out: &mut List<u8>, number: u64) -> Result<(), Memory>
+    ensures { OnOk result (out.new ≡ out.old ++ decimal number) }
+{
+    let digits = number.to_string(out.allocator())?;
+    out.extend(digits.as_bytes())
+}
+
 // Words and a number.
 fn placed(alloc: Global, words: &[u8], place: u64) -> Result<Text, Memory>
     ensures { IfOk result (λ t. t ≡ words.now ++ decimal place) }
 {
     let mut text = List::empty(alloc);
     text.extend(words)?;
-    let mut buffer = itoa::Buffer::new();
-    text.extend(buffer.format(place).as_bytes())?;
+    put_number(&mut text, place)?;
     Ok(Text::from_vec(text.into_vec()))
 }
 

@@ -13,14 +13,14 @@ use Rattle.meaning_sql.specs.Columns.{Columns}
 use Rattle.meaning_sql.specs.Datalinks.{accessed}
 use Rattle.meaning_sql.specs.Faults.{◌>>=◌}
 use Rattle.meaning_sql.specs.Operators.{gathered}
-use Rattle.meaning_sql.specs.Values.{Said, said, said_at, meaning}
+use Rattle.meaning_sql.specs.Values.{Denotation, denotation, denotation_at, meaning}
 
 pub meaning-Aggregate : (columns : Columns) (context : Context) (group : List Row) (f : Fold) (inner : Expr) (row : Row)
     → meaning columns context group (Aggregate f inner) row ≡ gathered f values.Null (map (meaning columns context group inner) group)
 meaning-Aggregate columns context group f inner row =
-    ap (λ (e : Expr). meaning columns context group e row) (sym (rolls-Aggregate f inner)) ∙ ap (λ (s : Said). s.at row) (fold-roll-Expr Said (said_at columns context group) (level.Aggregate f inner))
+    ap (λ (e : Expr). meaning columns context group e row) (sym (rolls-Aggregate f inner)) ∙ ap (λ (s : Denotation). s.at row) (fold-roll-Expr Denotation (denotation_at columns context group) (level.Aggregate f inner))
 
 pub meaning-Access : (columns : Columns) (context : Context) (group : List Row) (part : Part) (inner : Expr) (row : Row)
-    → meaning columns context group (Access part inner) row ≡ (meaning columns context group inner row >>= λ x. Ok (accessed context (said columns context group inner).under part x))
+    → meaning columns context group (Access part inner) row ≡ (meaning columns context group inner row >>= λ x. Ok (accessed context (denotation columns context group inner).under part x))
 meaning-Access columns context group part inner row =
-    ap (λ (e : Expr). meaning columns context group e row) (sym (rolls-Access part inner)) ∙ ap (λ (s : Said). s.at row) (fold-roll-Expr Said (said_at columns context group) (level.Access part inner))
+    ap (λ (e : Expr). meaning columns context group e row) (sym (rolls-Access part inner)) ∙ ap (λ (s : Denotation). s.at row) (fold-roll-Expr Denotation (denotation_at columns context group) (level.Access part inner))

@@ -12,28 +12,28 @@ use Rattle.dl_base.specs.declared.statement.Expr.TheOpen as level
 use Rattle.meaning_sql.specs.declared.Context.{Context}
 use Rattle.meaning_sql.specs.declared.SqlType.{SqlType}
 use Rattle.meaning_sql.specs.declared.SqlType.TheVariants as types
-use Rattle.meaning_sql.specs.declared.Standing.{Standing}
-use Rattle.meaning_sql.specs.declared.Standing.TheVariants as standing
+use Rattle.meaning_sql.specs.declared.AggregateScope.{AggregateScope}
+use Rattle.meaning_sql.specs.declared.AggregateScope.TheVariants as scope
 use Rattle.meaning_sql.specs.Columns.{Columns, place_of, kind_at}
 use Rattle.meaning_sql.specs.Datalinks.{datalink, accessed}
 use Rattle.meaning_sql.specs.Faults.{◌>>=◌, typed}
 use Rattle.meaning_sql.specs.Fitting.{IsTyped, FitsColumns, is_of_type}
 use Rattle.meaning_sql.specs.Operators.{truth_of, of_truth, not3, negated, binary, is_null}
 use Rattle.meaning_sql.specs.Types.{type_at, type_of, aggregate_type, binary_type, is_truth, is_int, is_text, is_link, is_cell, kind_type, takes_column, takes_aggregate, column_type}
-use Rattle.meaning_sql.specs.Values.{Said, said_at, said, meaning, cell}
+use Rattle.meaning_sql.specs.Values.{Denotation, denotation_at, denotation, meaning, cell}
 use Rattle.sql_expr.proofs.Typed.{null_typed, truth_typed, cell_typed, negated_typed, binary_typed, gathered_typed, datalink_typed, accessed_typed}
 use Rattle.sql_expr.proofs.Steps.{passed, held, then_typed}
 
 -- what types an operand has, and what it says: a value of each type that it has, at each row that fits
-abbrev pub Keeps : Columns → (Standing → Result SqlType SqlFault) → (Row → Result Value SqlFault) → Type 0
-Keeps columns kinds at = (s : Standing) (t : SqlType) (row : Row) → kinds s ≡ Ok t → FitsColumns columns row → IsTyped t (at row)
+abbrev pub Keeps : Columns → (AggregateScope → Result SqlType SqlFault) → (Row → Result Value SqlFault) → Type 0
+Keeps columns kinds at = (s : AggregateScope) (t : SqlType) (row : Row) → kinds s ≡ Ok t → FitsColumns columns row → IsTyped t (at row)
 
 -- an expression does
 abbrev pub IsKept : Columns → Context → List Row → Expr → Type 0
 IsKept columns context group e = Keeps columns (λ s. type_of columns s e) (meaning columns context group e)
 
 -- a step whose operand keeps it: its own test decides its type, and each value that it gives is of that type
-unary : (columns : Columns) (kinds : Standing → Result SqlType SqlFault) (at : Row → Result Value SqlFault) (k : SqlType → Result SqlType SqlFault) (f : Value → Result Value SqlFault)
+unary : (columns : Columns) (kinds : AggregateScope → Result SqlType SqlFault) (at : Row → Result Value SqlFault) (k : SqlType → Result SqlType SqlFault) (f : Value → Result Value SqlFault)
     → Keeps columns kinds at → ((t u : SqlType) (x : Value) → k t ≡ Ok u → is_of_type t x ≡ true → IsTyped u (f x))
     → Keeps columns (λ s. kinds s >>= k) (λ row. at row >>= f)
 unary columns kinds at k f inner step s u row h fits =
@@ -50,12 +50,12 @@ type t = Ok t
 same_type : (t u : SqlType) (m : Result Value SqlFault) → type t ≡ Ok u → IsTyped t m → IsTyped u m
 same_type t u m h is = subst (λ (w : SqlType). IsTyped w m) (cc) is
 
-each_typed : (columns : Columns) (kinds : Standing → Result SqlType SqlFault) (at : Row → Result Value SqlFault) (s : Standing) (t : SqlType)
+each_typed : (columns : Columns) (kinds : AggregateScope → Result SqlType SqlFault) (at : Row → Result Value SqlFault) (s : AggregateScope) (t : SqlType)
     → Keeps columns kinds at → kinds s ≡ Ok t → (group : List Row) → AllByRecursion (FitsColumns columns) group → AllByRecursion (IsTyped t) (map at group)
 each_typed columns kinds at s t inner h [] all = tt
 each_typed columns kinds at s t inner h (row ∷ rows) all = (inner s t row h all.0, each_typed columns kinds at s t inner h rows all.1)
 
-column_kept : (columns : Columns) (r : Ref) (s : Standing) (t : SqlType) (row : Row)
+column_kept : (columns : Columns) (r : Ref) (s : AggregateScope) (t : SqlType) (row : Row)
     → column_type columns r s ≡ Ok t → FitsColumns columns row → IsTyped t (place_of columns r >>= λ i. Ok (cell row i))
 column_kept columns r s t row h fits =
     let p = passed (place_of columns r) (λ i. typed (takes_column s i) (kind_type (kind_at columns i))) t h in
@@ -66,11 +66,11 @@ column_kept columns r s t row h fits =
 abbrev Kept : Columns → Context → List Row → Type 0
 Kept columns context group = (e : Expr) × IsKept columns context group e
 
-abbrev kinds_of : Columns → Expr → Standing → Result SqlType SqlFault
-kinds_of columns = fold-Expr (Standing → Result SqlType SqlFault) (type_at columns)
+abbrev kinds_of : Columns → Expr → AggregateScope → Result SqlType SqlFault
+kinds_of columns = fold-Expr (AggregateScope → Result SqlType SqlFault) (type_at columns)
 
 abbrev LayerKeeps : Columns → Context → List Row → Expr-F Expr → Type 0
-LayerKeeps columns context group x = Keeps columns (type_at columns (map-Expr Expr (Standing → Result SqlType SqlFault) (kinds_of columns) x)) (said_at columns context group (map-Expr Expr Said (said columns context group) x)).at
+LayerKeeps columns context group x = Keeps columns (type_at columns (map-Expr Expr (AggregateScope → Result SqlType SqlFault) (kinds_of columns) x)) (denotation_at columns context group (map-Expr Expr Denotation (denotation columns context group) x)).at
 
 layer : (columns : Columns) (context : Context) (group : List Row) → AllByRecursion (FitsColumns columns) group
     → (y : Expr-F (Kept columns context group)) → LayerKeeps columns context group (map-Expr (Kept columns context group) Expr (λ (e : Kept columns context group). e.0) y)
@@ -94,7 +94,7 @@ layer columns context group all (level.IsNull a is) s u row h fits =
     (λ t v x k _. fixed (is_cell t) types.Truth v (Ok (of_truth (Some (if is then is_null x else not (is_null x))))) k (truth_typed (Some (if is then is_null x else not (is_null x))))) s u row h fits
 layer columns context group all level.CountAll s u row h fits = fixed (takes_aggregate s) types.Int u (Ok (values.Int (pos (length group)))) h refl
 layer columns context group all (level.Aggregate f a) s u row h fits =
-    let p = passed (typed (takes_aggregate s) standing.Row) (λ r. kinds_of columns a.0 r >>= aggregate_type f) u h in
+    let p = passed (typed (takes_aggregate s) scope.Row) (λ r. kinds_of columns a.0 r >>= aggregate_type f) u h in
     let q = passed (kinds_of columns a.0 p.x) (aggregate_type f) u p.second in
     gathered_typed f q.x u values.Null (map (meaning columns context group a.0) group) q.second (null_typed u)
     (each_typed columns (kinds_of columns a.0) (meaning columns context group a.0) p.x q.x a.1 q.first group all)
@@ -118,11 +118,11 @@ layer columns context group all (level.Dlvalue3 a b c) s u row h fits =
     (λ y _. then_typed r.x types.Link (meaning columns context group c.0 row) (λ z. datalink context.server x y z) (c.1 s r.x row r.first fits)
     (λ z _. datalink_typed context.server x y z))))
 layer columns context group all (level.Access part a) s u row h fits =
-    unary columns (kinds_of columns a.0) (meaning columns context group a.0) (λ t. typed (is_link t) types.Text) (λ x. Ok (accessed context (said columns context group a.0).under part x)) a.1
-    (λ t v x k is. fixed (is_link t) types.Text v (Ok (accessed context (said columns context group a.0).under part x)) k (accessed_typed context (said columns context group a.0).under part x)) s u row h fits
+    unary columns (kinds_of columns a.0) (meaning columns context group a.0) (λ t. typed (is_link t) types.Text) (λ x. Ok (accessed context (denotation columns context group a.0).under part x)) a.1
+    (λ t v x k is. fixed (is_link t) types.Text v (Ok (accessed context (denotation columns context group a.0).under part x)) k (accessed_typed context (denotation columns context group a.0).under part x)) s u row h fits
 
 pub kept : (columns : Columns) (context : Context) (group : List Row) → AllByRecursion (FitsColumns columns) group → (e : Expr) → IsKept columns context group e
 kept columns context group all = ind-Expr (IsKept columns context group) (λ x y is.
     let here = subst (λ (z : Expr-F Expr). LayerKeeps columns context group z) is (layer columns context group all y) in
-    let values = subst (λ (w : Said). Keeps columns (type_at columns (map-Expr Expr (Standing → Result SqlType SqlFault) (kinds_of columns) x)) w.at) (sym (fold-roll-Expr Said (said_at columns context group) x)) here in
-    subst (λ (w : Standing → Result SqlType SqlFault). Keeps columns w (meaning columns context group (roll-Expr x))) (sym (fold-roll-Expr (Standing → Result SqlType SqlFault) (type_at columns) x)) values)
+    let values = subst (λ (w : Denotation). Keeps columns (type_at columns (map-Expr Expr (AggregateScope → Result SqlType SqlFault) (kinds_of columns) x)) w.at) (sym (fold-roll-Expr Denotation (denotation_at columns context group) x)) here in
+    subst (λ (w : AggregateScope → Result SqlType SqlFault). Keeps columns w (meaning columns context group (roll-Expr x))) (sym (fold-roll-Expr (AggregateScope → Result SqlType SqlFault) (type_at columns) x)) values)

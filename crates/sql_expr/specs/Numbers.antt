@@ -5,6 +5,6 @@ use Rattle.dl_base.specs.declared.sql_fault.SqlFault.TheVariants as faults
 use Rattle.dl_base.specs.declared.value.Value.{Value}
 use Rattle.dl_base.specs.declared.value.Value.TheVariants as values
 
-abbrev pub kept : Option ℤ → Result Value SqlFault
-kept (Some z) = Ok (values.Int z)
-kept None = Err faults.Overflow
+abbrev pub int_or_overflow : Option ℤ → Result Value SqlFault
+int_or_overflow (Some z) = Ok (values.Int z)
+int_or_overflow None = Err faults.Overflow

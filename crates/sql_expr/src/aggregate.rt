@@ -50,11 +50,19 @@ fn least(x: Value, y: Value) -> Value
     ensures { result ≡ meaning.better is_lt x y }
 {
     if is_null(&x) {
+        drop(x);
         return y;
     }
-    match compared(&y, &x) {
-        Some(o) => { if o.is_lt() { y } else { x } }
-        None => x,
+    let is_better = match compared(&y, &x) {
+        Some(o) => o.is_lt(),
+        None => false,
+    };
+    if is_better {
+        drop(x);
+        y
+    } else {
+        drop(y);
+        x
     }
 }
 
@@ -63,10 +71,18 @@ fn greatest(x: Value, y: Value) -> Value
     ensures { result ≡ meaning.better is_gt x y }
 {
     if is_null(&x) {
+        drop(x);
         return y;
     }
-    match compared(&y, &x) {
-        Some(o) => { if o.is_gt() { y } else { x } }
-        None => x,
+    let is_better = match compared(&y, &x) {
+        Some(o) => o.is_gt(),
+        None => false,
+    };
+    if is_better {
+        drop(x);
+        y
+    } else {
+        drop(y);
+        x
     }
 }

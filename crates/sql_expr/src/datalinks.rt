@@ -1,7 +1,7 @@
 // What DLVALUE makes, and what the accessors of a datalink show.
 ghost use Rattle.std.specs.Prelude.{◌≡◌, Ok, length};
 ghost use Rattle.meaning_sql.specs.Datalinks as meaning;
-ghost use Rattle.meaning_sql.specs.Faults.{Gives};
+ghost use Rattle.meaning_sql.specs.Faults.{Computes};
 
 use dl_base::{BadLink, Dl, LinkNo, Name, Options, Part, Path, ReadBy, SqlFault, Text, Value};
 use dl_location::{Accessor, LocationFault, accessor_text, read_location};
@@ -18,7 +18,7 @@ pub(crate) fn datalink(
     linktype: &Value,
     comment: &Value,
 ) -> Result<Value, SqlFault>
-    ensures { Gives (λ v. v) result (meaning.datalink server.now location.now linktype.now comment.now) }
+    ensures { Computes (λ v. v) result (meaning.datalink server.now location.now linktype.now comment.now) }
 {
     let text = match location {
         Value::Text(text) => text,
@@ -39,7 +39,7 @@ fn linked(
     linktype: &Value,
     comment: &Value,
 ) -> Result<Value, SqlFault>
-    ensures { Gives (λ v. v) result (meaning.linked (Ok (location, path)) (meaning.is_url linktype.now) (meaning.comment_text comment.now)) }
+    ensures { Computes (λ v. v) result (meaning.linked (Ok (location, path)) (meaning.is_url linktype.now) (meaning.comment_text comment.now)) }
 {
     if !is_url(linktype) {
         return Err(SqlFault::BadLink(BadLink::LinkType));
@@ -87,7 +87,7 @@ pub(crate) fn accessed(
     part: Part,
     x: &Value,
 ) -> Result<Value, SqlFault>
-    ensures { Gives (λ v. v) result (Ok (meaning.accessed context.entry.now under part x.now)) }
+    ensures { Computes (λ v. v) result (Ok (meaning.accessed context.entry.now under part x.now)) }
 {
     let Value::Link(link) = x else {
         return Ok(Value::Null);
@@ -102,7 +102,7 @@ fn part_text(
     part: Part,
     link: &Dl,
 ) -> Result<Text, SqlFault>
-    ensures { Gives (λ text. text) result (Ok (meaning.part_text context.entry.now under part link.now)) }
+    ensures { Computes (λ text. text) result (Ok (meaning.part_text context.entry.now under part link.now)) }
 {
     match part {
         Part::Comment => Ok(accessor_text(alloc, Accessor::Comment, link)?),
@@ -124,7 +124,7 @@ fn shown(
     link: &Dl,
     text: &[u8],
 ) -> Result<Text, SqlFault>
-    ensures { Gives (λ made. made) result (Ok (meaning.shown context.entry.now under link.now text.now)) }
+    ensures { Computes (λ made. made) result (Ok (meaning.shown context.entry.now under link.now text.now)) }
 {
     if !is_guarded(under) {
         return Ok(Text::of(alloc, text)?);
@@ -139,7 +139,7 @@ fn with_link_token(
     link: Option<LinkNo>,
     text: &[u8],
 ) -> Result<Text, SqlFault>
-    ensures { Gives (λ made. made) result (Ok (meaning.with_link_token context.entry.now path.now link text.now)) }
+    ensures { Computes (λ made. made) result (Ok (meaning.with_link_token context.entry.now path.now link text.now)) }
 {
     match link {
         None => Ok(Text::of(alloc, text)?),

@@ -3,9 +3,9 @@ ghost use Rattle.std.specs.Prelude.{◌≡◌, ◌<◌, ◌^◌, [], length, map
 ghost use Rattle.dl_base.specs.declared.column.Options.{Options};
 ghost use Rattle.meaning_sql.specs.Columns as columns_meant;
 ghost use Rattle.meaning_sql.specs.Datalinks as links_meant;
-ghost use Rattle.meaning_sql.specs.Faults.{Follows, Gives, next};
+ghost use Rattle.meaning_sql.specs.Faults.{Follows, Computes, and_then};
 ghost use Rattle.meaning_sql.specs.Operators as meant;
-ghost use Rattle.meaning_sql.specs.Values.{cell, meaning, said};
+ghost use Rattle.meaning_sql.specs.Values.{cell, meaning, denotation};
 
 use crate::aggregate::gather;
 use crate::columns::{kind_at, options_of, place_of};
@@ -28,7 +28,7 @@ pub fn value(
     columns: &Columns,
     context: &Context,
 ) -> Result<Value, SqlFault>
-    ensures { Gives (λ v. v) result (meaning columns.now context.entry.now [] expr.now row.now) }
+    ensures { Computes (λ v. v) result (meaning columns.now context.entry.now [] expr.now row.now) }
 {
     value_over(alloc, expr, row, columns, context, &[])
 }
@@ -42,7 +42,7 @@ pub fn evaluate(
     context: &Context,
     group: &List<Row>,
 ) -> Result<Value, SqlFault>
-    ensures { Gives (λ v. v) result (meaning columns.now context.entry.now group.now expr.now row.now) }
+    ensures { Computes (λ v. v) result (meaning columns.now context.entry.now group.now expr.now row.now) }
 {
     value_over(alloc, expr, row, columns, context, group.as_slice())
 }
@@ -67,7 +67,7 @@ fn value_over(
     context: &Context,
     group: &[Row],
 ) -> Result<Value, SqlFault>
-    ensures { Gives (λ v. v) result (meaning columns.now context.entry.now group.now expr.now row.now) }
+    ensures { Computes (λ v. v) result (meaning columns.now context.entry.now group.now expr.now row.now) }
 {
     match expr {
         Expr::Number(z) => Ok(Value::Int(*z)),
@@ -156,13 +156,13 @@ fn value_over(
 // What an operand gave is handed on whole, a refusal too: each of these takes the step of one operator on it.
 
 fn literal(text: &Text) -> Result<Value, SqlFault>
-    ensures { Gives (λ v. v) result (Ok (Value.Text text.now)) }
+    ensures { Computes (λ v. v) result (Ok (Value.Text text.now)) }
 {
     Ok(Value::Text(text.copy()?))
 }
 
 fn column_value(row: &Row, columns: &Columns, column: &Ref) -> Result<Value, SqlFault>
-    ensures { Gives (λ v. v) result (next (columns_meant.place_of columns.now column.now) (λ i. Ok (cell row.now i))) }
+    ensures { Computes (λ v. v) result (and_then (columns_meant.place_of columns.now column.now) (λ i. Ok (cell row.now i))) }
 {
     let place = place_of(columns, column)?;
     Ok(cell(row, place)?)
@@ -242,7 +242,7 @@ fn part_of(
     options: Result<Option<Options>, SqlFault>,
     part: Part,
 ) -> Result<Value, SqlFault>
-    ensures { (under : Option Options) → Gives (λ v. v) options (Ok under) → Gives (λ v. v) result (Ok (links_meant.accessed context.entry.now under part x)) }
+    ensures { (under : Option Options) → Computes (λ v. v) options (Ok under) → Computes (λ v. v) result (Ok (links_meant.accessed context.entry.now under part x)) }
 {
     accessed(alloc, context, options?, part, &x)
 }
@@ -250,7 +250,7 @@ fn part_of(
 // The options of the column that an expression is, if it is one under link control.
 #[tactic(auto, unfolding(meaning_sql::specs::Columns::options_at))]
 fn under(expr: &Expr, columns: &Columns) -> Result<Option<Options>, SqlFault>
-    ensures { (context : _) (group : _) → Gives (λ u. u) result (Ok (said columns.now context group expr.now).under) }
+    ensures { (context : _) (group : _) → Computes (λ u. u) result (Ok (denotation columns.now context group expr.now).under) }
 {
     match expr {
         Expr::Column(column) => match place_of(columns, column) {

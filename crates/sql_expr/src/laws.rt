@@ -5,7 +5,7 @@ ghost use Rattle.dl_base.specs.declared.statement.Expr.{Expr as ExprOf};
 ghost use Rattle.dl_base.specs.declared.value.Row.{Row as RowOf};
 ghost use Rattle.meaning_sql.specs.declared.Context.{Context as ContextOf};
 ghost use Rattle.meaning_sql.specs.declared.SqlType.{SqlType as TypeOf};
-ghost use Rattle.meaning_sql.specs.declared.Standing.{Standing as StandingOf};
+ghost use Rattle.meaning_sql.specs.declared.AggregateScope.{AggregateScope as StandingOf};
 ghost use Rattle.meaning_sql.specs.Columns.{Columns as ColumnsOf};
 ghost use Rattle.meaning_sql.specs.Fitting.{FitsColumns, IsTyped};
 ghost use Rattle.meaning_sql.specs.Types.{type_of};

@@ -1,22 +1,22 @@
-//! The types of SQL expressions, and their values at a row (ISO/IEC 9075-2, and 9075-9 for datalinks).
+//! The types of SQL expressions, their values at a row, and whether conditions are true of it (ISO/IEC 9075-2, and 9075-9 for datalinks).
 #![tactic(auto)]
 
 mod aggregate;
 mod checking;
 mod columns;
+mod condition;
 mod datalinks;
 mod evaluation;
 mod laws;
 mod number;
 mod operator;
-#[cfg(test)]
-mod tests;
 mod truth;
 mod types;
 
 pub use checking::{check, check_in};
 pub use columns::place_of;
+pub use condition::{condition_type, filter_holds, filter_type, holds};
 pub use evaluation::{cell, evaluate, value};
 pub use laws::values_are_of_the_type;
-pub use meaning_sql::{Columns, Context, SqlType, Standing};
+pub use meaning_sql::{AggregateScope, Columns, Context, SqlType};
 pub use types::kind_type;

@@ -1,7 +1,7 @@
 // Whole numbers of 64 bits.
 ghost use Rattle.std.specs.Prelude.{◌≡◌, ◌+ℤ◌, ◌-ℤ◌, ◌*ℤ◌, neg_ℤ};
 ghost use Rattle.meaning_sql.specs.Operators as meaning;
-ghost use Rattle.sql_expr.specs.Numbers.{kept};
+ghost use Rattle.sql_expr.specs.Numbers.{int_or_overflow};
 
 use dl_base::{SqlFault, Value};
 
@@ -45,7 +45,7 @@ pub(crate) fn opposite(a: i64) -> Result<Value, SqlFault>
 }
 
 fn whole(number: Option<i64>) -> Result<Value, SqlFault>
-    ensures { result ≡ kept number }
+    ensures { result ≡ int_or_overflow number }
 {
     match number {
         Some(z) => Ok(Value::Int(z)),

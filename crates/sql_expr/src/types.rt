@@ -5,7 +5,7 @@ ghost use Rattle.meaning_sql.specs.Faults as faults;
 ghost use Rattle.meaning_sql.specs.Types as meaning;
 
 use dl_base::{Fold, Kind, Op, SqlFault};
-use meaning_sql::{SqlType, Standing};
+use meaning_sql::{AggregateScope, SqlType};
 
 pub(crate) fn typed(holds: bool, t: SqlType) -> Result<SqlType, SqlFault>
     ensures { result ≡ faults.typed holds t }
@@ -74,23 +74,23 @@ pub(crate) fn aggregate_type(fold: Fold, t: SqlType) -> Result<SqlType, SqlFault
     }
 }
 
-pub(crate) fn takes_aggregate(standing: &Standing) -> bool
-    ensures { result ≡ meaning.takes_aggregate standing.now }
+pub(crate) fn takes_aggregate(scope: &AggregateScope) -> bool
+    ensures { result ≡ meaning.takes_aggregate scope.now }
 {
-    match standing {
-        Standing::Row => false,
-        Standing::Item => true,
-        Standing::Grouped(_) => true,
+    match scope {
+        AggregateScope::Row => false,
+        AggregateScope::Item => true,
+        AggregateScope::Grouped(_) => true,
     }
 }
 
-pub(crate) fn takes_column(standing: &Standing, place: usize) -> bool
-    ensures { result ≡ meaning.takes_column standing.now place }
+pub(crate) fn takes_column(scope: &AggregateScope, place: usize) -> bool
+    ensures { result ≡ meaning.takes_column scope.now place }
 {
-    match standing {
-        Standing::Row => true,
-        Standing::Item => true,
-        Standing::Grouped(places) => is_among(places.as_slice(), place),
+    match scope {
+        AggregateScope::Row => true,
+        AggregateScope::Item => true,
+        AggregateScope::Grouped(places) => is_among(places.as_slice(), place),
     }
 }
 

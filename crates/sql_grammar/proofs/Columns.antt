@@ -9,13 +9,14 @@ use Rattle.dl_base.specs.declared.column.ColumnRule.TheVariants as rule
 use Rattle.dl_base.specs.declared.statement.Integrity.TheVariants as integrity
 use Rattle.dl_base.specs.declared.statement.KindDef.TheVariants as kind
 use Rattle.dl_base.specs.declared.statement.Stmt.TheVariants as stmt
-use Rattle.sql_grammar.specs.declared.mark.Mark.TheVariants as mark
+use Rattle.sql_grammar.specs.declared.symbol.Symbol.TheVariants as symbol
 use Rattle.sql_grammar.specs.declared.token.Token.{Token}
-use Rattle.sql_grammar.specs.declared.token.Token.TheVariants.{Mark, Word}
+use Rattle.sql_grammar.specs.declared.token.Token.TheVariants.{Symbol, Word}
 use Rattle.sql_grammar.specs.declared.token.LinkWord.TheVariants as link
 use Rattle.sql_grammar.specs.declared.terminal.Terminal.{Terminal}
 use Rattle.sql_grammar.specs.declared.terminal.Terminal.TheVariants as terminal
-use Rattle.sql_grammar.specs.Lang.{Rises, Climbs, Then, One, Many, Listed, Enclosed, many_at, listed_at, enclosed_at}
+use Rattle.sql_grammar.specs.Readers.{Rises, Climbs, many_at, listed_at, enclosed_at}
+use Rattle.sql_grammar.specs.Lang.{Then, One, Many, Listed, Enclosed}
 use Rattle.dl_base.specs.declared.column.ColumnRule.{ColumnRule}
 use Rattle.std.proofs.Common.{arith, pos}
 use Rattle.sql_grammar.specs.Statements.{name_of, number_of, Name, IntegrityWord, ReadWord, WriteWord, YesNo, UnlinkWord, Unlinking, Recovery, Writing, Reading, chosen, Choices, Filed, Control, DatalinkTail, Kind, Rule, column_of, Column, CreateTail, DropTail}
@@ -40,7 +41,7 @@ has_number = record { value = pos 1; text = terminal.Number (pos 1) ∷ []; says
 
 -- what may follow a column's type
 columns_rest : List Token
-columns_rest = Mark mark.Not ∷ Mark mark.Primary ∷ Mark mark.Comma ∷ Mark mark.Close ∷ []
+columns_rest = Symbol symbol.Not ∷ Symbol symbol.Primary ∷ Symbol symbol.Comma ∷ Symbol symbol.Close ∷ []
 
 has_integrity : Has IntegrityWord
 has_integrity = has_left _ (has_after (Word link.All) (has_just integrity.All))
@@ -83,17 +84,17 @@ reads_unlink : (E : List Terminal → Type 0) → Reads unlink_at UnlinkWord E
 unfolding unlink_at
 reads_unlink E =
     reads_branch (Word link.Restore) (has_just unlink.Restore) (reads_just unlink.Restore E)
-    (reads_branch (Mark mark.Delete) (has_just unlink.Delete) (reads_just unlink.Delete E) (reads_after (Word link.None) (has_just unlink.Nothing) (reads_just unlink.Nothing E)) (apart_after (Mark mark.Delete) (Word link.None) _ E refl))
-    (apart_or (Word link.Restore) _ _ E (apart_after (Word link.Restore) (Mark mark.Delete) _ E refl) (apart_after (Word link.Restore) (Word link.None) _ E refl))
+    (reads_branch (Symbol symbol.Delete) (has_just unlink.Delete) (reads_just unlink.Delete E) (reads_after (Word link.None) (has_just unlink.Nothing) (reads_just unlink.Nothing E)) (apart_after (Symbol symbol.Delete) (Word link.None) _ E refl))
+    (apart_or (Word link.Restore) _ _ E (apart_after (Word link.Restore) (Symbol symbol.Delete) _ E refl) (apart_after (Word link.Restore) (Word link.None) _ E refl))
 
 has_unlinking : Has Unlinking
-has_unlinking = has_left _ (has_after (Mark mark.On) (has_after (Word link.Unlink) has_unlink))
+has_unlinking = has_left _ (has_after (Symbol symbol.On) (has_after (Word link.Unlink) has_unlink))
 
 reads_unlinking : Reads unlinking_at Unlinking (Heads columns_rest)
 unfolding unlinking_at columns_rest
 reads_unlinking =
-    reads_branch (Mark mark.On) (has_after (Word link.Unlink) has_unlink) (reads_after (Word link.Unlink) has_unlink (reads_unlink (Heads columns_rest))) (reads_just unlink.Nothing (Heads columns_rest))
-    (apart_just (Mark mark.On) unlink.Nothing (Heads columns_rest) (lacks (Mark mark.On) columns_rest refl (λ ws. refl, (λ ws. refl, (λ ws. refl, (λ ws. refl, tt))))))
+    reads_branch (Symbol symbol.On) (has_after (Word link.Unlink) has_unlink) (reads_after (Word link.Unlink) has_unlink (reads_unlink (Heads columns_rest))) (reads_just unlink.Nothing (Heads columns_rest))
+    (apart_just (Symbol symbol.On) unlink.Nothing (Heads columns_rest) (lacks (Symbol symbol.On) columns_rest refl (λ ws. refl, (λ ws. refl, (λ ws. refl, (λ ws. refl, tt))))))
 
 has_recovery : Has Recovery
 has_recovery = has_after (Word link.Recovery) (has_then has_yes_no has_unlinking)
@@ -161,42 +162,42 @@ reads_datalink =
 -- ---- types
 
 has_kind : Has Kind
-has_kind = has_left _ (has_after (Mark mark.Integer) (has_just kind.Integer))
+has_kind = has_left _ (has_after (Symbol symbol.Integer) (has_just kind.Integer))
 
 has_length : Has (Enclosed (One number_of))
-has_length = has_after (Mark mark.Open) (has_closed (Mark mark.Close) has_number)
+has_length = has_after (Symbol symbol.Open) (has_closed (Symbol symbol.Close) has_number)
 
 reads_kind : Reads kind_at Kind (Heads columns_rest)
 unfolding kind_at
 reads_kind =
     let E : List Terminal → Type 0 = Heads columns_rest in
-    reads_branch (Mark mark.Integer) (has_just kind.Integer) (reads_just kind.Integer E)
-    (reads_branch (Mark mark.Bigint) (has_just kind.Integer) (reads_just kind.Integer E)
-    (reads_branch (Mark mark.Varchar) (has_map kind.Varchar has_length) (reads_map kind.Varchar (reads_after (Mark mark.Open) (has_closed (Mark mark.Close) has_number) (reads_closed (Mark mark.Close) E (λ rest. tt) (reads_one number_of Any))))
-    (reads_after (Mark mark.Datalink) has_datalink reads_datalink)
-    (apart_after (Mark mark.Varchar) (Mark mark.Datalink) _ E refl))
-    (apart_or (Mark mark.Bigint) _ _ E (apart_after (Mark mark.Bigint) (Mark mark.Varchar) _ E refl) (apart_after (Mark mark.Bigint) (Mark mark.Datalink) _ E refl)))
-    (apart_or (Mark mark.Integer) _ _ E (apart_after (Mark mark.Integer) (Mark mark.Bigint) _ E refl) (apart_or (Mark mark.Integer) _ _ E (apart_after (Mark mark.Integer) (Mark mark.Varchar) _ E refl) (apart_after (Mark mark.Integer) (Mark mark.Datalink) _ E refl)))
+    reads_branch (Symbol symbol.Integer) (has_just kind.Integer) (reads_just kind.Integer E)
+    (reads_branch (Symbol symbol.Bigint) (has_just kind.Integer) (reads_just kind.Integer E)
+    (reads_branch (Symbol symbol.Varchar) (has_map kind.Varchar has_length) (reads_map kind.Varchar (reads_after (Symbol symbol.Open) (has_closed (Symbol symbol.Close) has_number) (reads_closed (Symbol symbol.Close) E (λ rest. tt) (reads_one number_of Any))))
+    (reads_after (Symbol symbol.Datalink) has_datalink reads_datalink)
+    (apart_after (Symbol symbol.Varchar) (Symbol symbol.Datalink) _ E refl))
+    (apart_or (Symbol symbol.Bigint) _ _ E (apart_after (Symbol symbol.Bigint) (Symbol symbol.Varchar) _ E refl) (apart_after (Symbol symbol.Bigint) (Symbol symbol.Datalink) _ E refl)))
+    (apart_or (Symbol symbol.Integer) _ _ E (apart_after (Symbol symbol.Integer) (Symbol symbol.Bigint) _ E refl) (apart_or (Symbol symbol.Integer) _ _ E (apart_after (Symbol symbol.Integer) (Symbol symbol.Varchar) _ E refl) (apart_after (Symbol symbol.Integer) (Symbol symbol.Datalink) _ E refl)))
 
 -- ---- columns
 
 has_rule : Has Rule
-has_rule = has_left _ (has_after (Mark mark.Not) (has_after (Mark mark.Null) (has_just rule.NotNull)))
+has_rule = has_left _ (has_after (Symbol symbol.Not) (has_after (Symbol symbol.Null) (has_just rule.NotNull)))
 
 reads_rule : Reads rule_at Rule Any
 unfolding rule_at
 reads_rule =
-    reads_branch (Mark mark.Not) (has_after (Mark mark.Null) (has_just rule.NotNull)) (reads_after (Mark mark.Null) (has_just rule.NotNull) (reads_just rule.NotNull Any))
-    (reads_after (Mark mark.Primary) (has_after (Mark mark.Key) (has_just rule.Key)) (reads_after (Mark mark.Key) (has_just rule.Key) (reads_just rule.Key Any)))
-    (apart_after (Mark mark.Not) (Mark mark.Primary) _ Any refl)
+    reads_branch (Symbol symbol.Not) (has_after (Symbol symbol.Null) (has_just rule.NotNull)) (reads_after (Symbol symbol.Null) (has_just rule.NotNull) (reads_just rule.NotNull Any))
+    (reads_after (Symbol symbol.Primary) (has_after (Symbol symbol.Key) (has_just rule.Key)) (reads_after (Symbol symbol.Key) (has_just rule.Key) (reads_just rule.Key Any)))
+    (apart_after (Symbol symbol.Not) (Symbol symbol.Primary) _ Any refl)
 
 rule_passes : Passes begins_rule Rule
-rule_passes x a (inl says) = (terminal.Fixed mark.Not, says.0, says.1, refl)
-rule_passes x a (inr says) = (terminal.Fixed mark.Primary, says.0, says.1, refl)
+rule_passes x a (inl says) = (terminal.Fixed symbol.Not, says.0, says.1, refl)
+rule_passes x a (inr says) = (terminal.Fixed symbol.Primary, says.0, says.1, refl)
 
 -- what may follow a column
 column_rest : List Token
-column_rest = Mark mark.Comma ∷ Mark mark.Close ∷ []
+column_rest = Symbol symbol.Comma ∷ Symbol symbol.Close ∷ []
 
 has_column : Has Column
 has_column = has_map column_of (has_then has_name (has_then has_kind (has_many Rule)))
@@ -212,33 +213,33 @@ rules_start [] b rest says ends = subst (λ (z : List Terminal). Heads columns_r
 rules_start (x ∷ xs) b rest says ends = first says.3
   where
     first : Rule x says.0 → Heads columns_rest (b ++ rest)
-    first (inl s) = let e : b ≡ terminal.Fixed mark.Not ∷ (s.0 ++ says.1) = says.2 ∙ ap (λ (z : List Terminal). z ++ says.1) s.1 in subst (λ (z : List Terminal). Heads columns_rest (z ++ rest)) (sym e) (inl refl)
-    first (inr s) = let e : b ≡ terminal.Fixed mark.Primary ∷ (s.0 ++ says.1) = says.2 ∙ ap (λ (z : List Terminal). z ++ says.1) s.1 in subst (λ (z : List Terminal). Heads columns_rest (z ++ rest)) (sym e) (inr (inl refl))
+    first (inl s) = let e : b ≡ terminal.Fixed symbol.Not ∷ (s.0 ++ says.1) = says.2 ∙ ap (λ (z : List Terminal). z ++ says.1) s.1 in subst (λ (z : List Terminal). Heads columns_rest (z ++ rest)) (sym e) (inl refl)
+    first (inr s) = let e : b ≡ terminal.Fixed symbol.Primary ∷ (s.0 ++ says.1) = says.2 ∙ ap (λ (z : List Terminal). z ++ says.1) s.1 in subst (λ (z : List Terminal). Heads columns_rest (z ++ rest)) (sym e) (inr (inl refl))
 
 reads_column : Reads column_at Column (Heads column_rest)
 unfolding column_at
 reads_column = reads_map column_of (reads_then (reads_name Any) (reads_then reads_kind reads_rules (has_many Rule) rules_start) (has_then has_kind (has_many Rule)) (starts_any (Then Kind (Many Rule)) (Heads column_rest)))
 
 has_columns : Has (Enclosed (Listed Column))
-has_columns = has_after (Mark mark.Open) (has_closed (Mark mark.Close) (has_listed has_column))
+has_columns = has_after (Symbol symbol.Open) (has_closed (Symbol symbol.Close) (has_listed has_column))
 
 reads_columns : (E : List Terminal → Type 0) → Reads (enclosed_at (listed_at column_at)) (Enclosed (Listed Column)) E
 unfolding column_rest
-reads_columns E = reads_after (Mark mark.Open) (has_closed (Mark mark.Close) (has_listed has_column)) (reads_closed (Mark mark.Close) E (λ rest. (inr (inl refl), refl)) (reads_listed has_column reads_column (λ rest. inl refl)))
+reads_columns E = reads_after (Symbol symbol.Open) (has_closed (Symbol symbol.Close) (has_listed has_column)) (reads_closed (Symbol symbol.Close) E (λ rest. (inr (inl refl), refl)) (reads_listed has_column reads_column (λ rest. inl refl)))
 
 pub has_create : Has CreateTail
-has_create = has_map (λ p. stmt.CreateTable p.0 p.1) (has_after (Mark mark.Table) (has_then has_name has_columns))
+has_create = has_map (λ p. stmt.CreateTable p.0 p.1) (has_after (Symbol symbol.Table) (has_then has_name has_columns))
 
 pub reads_create : (E : List Terminal → Type 0) → Reads create_at CreateTail E
 unfolding create_at
-reads_create E = reads_map (λ p. stmt.CreateTable p.0 p.1) (reads_after (Mark mark.Table) (has_then has_name has_columns) (reads_then (reads_name Any) (reads_columns E) has_columns (starts_any (Enclosed (Listed Column)) E)))
+reads_create E = reads_map (λ p. stmt.CreateTable p.0 p.1) (reads_after (Symbol symbol.Table) (has_then has_name has_columns) (reads_then (reads_name Any) (reads_columns E) has_columns (starts_any (Enclosed (Listed Column)) E)))
 
 pub has_drop : Has DropTail
-has_drop = has_map stmt.DropTable (has_after (Mark mark.Table) has_name)
+has_drop = has_map stmt.DropTable (has_after (Symbol symbol.Table) has_name)
 
 pub reads_drop : (E : List Terminal → Type 0) → Reads drop_at DropTail E
 unfolding drop_at
-reads_drop E = reads_map stmt.DropTable (reads_after (Mark mark.Table) has_name (reads_name E))
+reads_drop E = reads_map stmt.DropTable (reads_after (Symbol symbol.Table) has_name (reads_name E))
 
 -- ---- where reading goes on
 

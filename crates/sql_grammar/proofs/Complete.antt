@@ -9,7 +9,7 @@ use Rattle.dl_base.specs.declared.statement.Part.{Part}
 use Rattle.dl_base.specs.declared.statement.Part.TheVariants.{Comment, LinkType, Scheme, Server, PathOnly, Path, Complete}
 use Rattle.dl_base.specs.declared.statement.Expr.{Expr}
 use Rattle.dl_base.specs.declared.statement.Expr as e
-use Rattle.sql_grammar.specs.declared.mark.Mark.TheVariants as mark
+use Rattle.sql_grammar.specs.declared.symbol.Symbol.TheVariants as symbol
 use Rattle.sql_grammar.specs.declared.terminal.Terminal.{Terminal}
 use Rattle.sql_grammar.specs.declared.terminal.Terminal.TheVariants.{Fixed, Word}
 use Rattle.sql_grammar.specs.declared.frame.Opening.{Opening}
@@ -18,7 +18,8 @@ use Rattle.sql_grammar.specs.declared.frame.Callee.TheVariants.{Opens}
 use Rattle.sql_grammar.specs.declared.frame.Frame.{Frame}
 use Rattle.sql_grammar.specs.declared.frame.Frame.TheVariants.{Opened, Negation, Sign, Infix}
 use Rattle.sql_grammar.specs.Levels.{level_of, left_of}
-use Rattle.sql_grammar.specs.Cues.{Cue, mark_of, an_operator, an_is, an_open, a_close, a_comma, a_dot, cue}
+use Rattle.sql_grammar.specs.Cues.{Cue, an_operator, an_is, an_open, a_close, a_comma, a_dot, cue}
+use Rattle.sql_grammar.specs.Levels.{symbol_of}
 use Rattle.sql_grammar.specs.Words as words
 use Rattle.sql_grammar.specs.Forms.{Form, number, literal, column, null, parens, not, minus, binary, is_null, count_all, aggregate, access, dlvalue1, dlvalue2, dlvalue3, fold_name, part_name, reference, null_text, level, IsForm, text, tree, operators, depth}
 use Rattle.sql_grammar.specs.Machine.{need, reduced, enclosed, callee_of, State, due, after, named, is_due, Go, Refuse, operate, ask, close, pass, leave, call_open, move_after, move, told, run}
@@ -47,19 +48,19 @@ ends_up : (l m : ℕ) (ws : List Terminal) → l ≤ m → Ends l ws → Ends m 
 ends_up l m [] h e = tt
 ends_up l m (w ∷ ws) h e = ends_at_up l m (cue w) h e
 
-pub cue_mark : (o : Op) → cue (Fixed (mark_of o)) ≡ an_operator o
-cue_mark Or = refl
-cue_mark And = refl
-cue_mark Eq = refl
-cue_mark Ne = refl
-cue_mark Lt = refl
-cue_mark Le = refl
-cue_mark Gt = refl
-cue_mark Ge = refl
-cue_mark Add = refl
-cue_mark Sub = refl
-cue_mark Mul = refl
-cue_mark Div = refl
+pub cue_symbol : (o : Op) → cue (Fixed (symbol_of o)) ≡ an_operator o
+cue_symbol Or = refl
+cue_symbol And = refl
+cue_symbol Eq = refl
+cue_symbol Ne = refl
+cue_symbol Lt = refl
+cue_symbol Le = refl
+cue_symbol Gt = refl
+cue_symbol Ge = refl
+cue_symbol Add = refl
+cue_symbol Sub = refl
+cue_symbol Mul = refl
+cue_symbol Div = refl
 
 -- an operator after an operand that binds tightly enough
 operate_by : (o : Op) (l : ℕ) (r : List Frame × Expr) (n p : ℕ) → left_of o ≤ l → operate o l r n p ≡ cond (leb (need r.0) (level_of o) && ltb n 255) (Go (due (Infix o r.1 ∷ r.0) (suc n) p)) Refuse
@@ -150,10 +151,10 @@ stays_is (Sign ∷ s) t h = absurd (omega arith)
 stays_is (Infix q a ∷ s) t h = cond_false (leb 4 (level_of q)) _ _ (lt-leb 4 (level_of q) (omega arith))
 
 -- an operator after an operand that it takes
-operates : (o : Op) (s : List Frame) (t : Expr) (l n p i : ℕ) (ws : List Terminal) → left_of o ≤ l → need s ≤ level_of o → n < 255 → run (after s t l n p) i (Fixed (mark_of o) ∷ ws) ≡ run (due (Infix o t ∷ s) (suc n) p) (suc i) ws
+operates : (o : Op) (s : List Frame) (t : Expr) (l n p i : ℕ) (ws : List Terminal) → left_of o ≤ l → need s ≤ level_of o → n < 255 → run (after s t l n p) i (Fixed (symbol_of o) ∷ ws) ≡ run (due (Infix o t ∷ s) (suc n) p) (suc i) ws
 operates o s t l n p i ws hl h lt =
     let next : State → Place = λ s. run s (suc i) ws in
-    ap (λ c. told (move_after s t l n p c) i next) (cue_mark o)
+    ap (λ c. told (move_after s t l n p c) i next) (cue_symbol o)
     ∙ ap (λ x. told x i next) (operate_by o l (reduced (left_of o) s t) n p hl ∙ ap (λ r. cond (leb (need r.0) (level_of o) && ltb n 255) (Go (due (Infix o r.1 ∷ r.0) (suc n) p)) Refuse) (stays s t o h))
     ∙ goes (leb (need s) (level_of o) && ltb n 255) _ i next (both _ _ (le-leb (need s) (level_of o) h) (le-leb (suc n) 255 (omega arith)))
 
@@ -173,7 +174,7 @@ column_named s x n p i [] l h = refl
 column_named s x n p i (v ∷ rest) l h = ap (λ m. told m i (λ s. run s (suc i) rest)) (column_cue s x n p l (cue v) h)
 
 -- a function's name before a parenthesis
-calls : (x : List ℕ) (g : Opening) (s : List Frame) (n p i : ℕ) (ws : List Terminal) → callee_of x ≡ Some (Opens g) → n < 255 → p < 256 → run (due s n p) i (Word x ∷ Fixed mark.Open ∷ ws) ≡ run (due (Opened g ∷ s) (suc n) (suc p)) (suc (suc i)) ws
+calls : (x : List ℕ) (g : Opening) (s : List Frame) (n p i : ℕ) (ws : List Terminal) → callee_of x ≡ Some (Opens g) → n < 255 → p < 256 → run (due s n p) i (Word x ∷ Fixed symbol.Open ∷ ws) ≡ run (due (Opened g ∷ s) (suc n) (suc p)) (suc (suc i)) ws
 calls x g s n p i ws is ln lp =
     let next : State → Place = λ s. run s (suc (suc i)) ws in
     ap (λ o. told (call_open o s x n p) (suc i) next) is ∙ goes (ltb n 255 && ltb p 256) _ (suc i) next (both _ _ (le-leb (suc n) 255 (omega arith)) (le-leb (suc p) 256 (omega arith)))
@@ -193,8 +194,8 @@ part_called Path = refl
 part_called Complete = refl
 
 -- an expression before the parenthesis that closes
-encloses : (g : Opening) (s : List Frame) (t : Expr) (l n m p i k j : ℕ) (inner rest : List Terminal) → run (due (Opened g ∷ s) n (suc p)) i (inner ++ Fixed mark.Close ∷ rest) ≡ run (after (Opened g ∷ s) t l m (suc p)) k (Fixed mark.Close ∷ rest) → j ≡ suc k → run (due (Opened g ∷ s) n (suc p)) i ((inner ++ Fixed mark.Close ∷ []) ++ rest) ≡ run (after s (enclosed g t) 7 m p) j rest
-encloses g s t l n m p i k j inner rest h e = ap (run (due (Opened g ∷ s) n (suc p)) i) (append_assoc inner (Fixed mark.Close ∷ []) rest) ∙ h ∙ ap (λ k. run (after s (enclosed g t) 7 m p) k rest) (sym e)
+encloses : (g : Opening) (s : List Frame) (t : Expr) (l n m p i k j : ℕ) (inner rest : List Terminal) → run (due (Opened g ∷ s) n (suc p)) i (inner ++ Fixed symbol.Close ∷ rest) ≡ run (after (Opened g ∷ s) t l m (suc p)) k (Fixed symbol.Close ∷ rest) → j ≡ suc k → run (due (Opened g ∷ s) n (suc p)) i ((inner ++ Fixed symbol.Close ∷ []) ++ rest) ≡ run (after s (enclosed g t) 7 m p) j rest
+encloses g s t l n m p i k j inner rest h e = ap (run (due (Opened g ∷ s) n (suc p)) i) (append_assoc inner (Fixed symbol.Close ∷ []) rest) ∙ h ∙ ap (λ k. run (after s (enclosed g t) 7 m p) k rest) (sym e)
 
 pub reads : (f : Form) (s : List Frame) (n p i m j : ℕ) (rest : List Terminal) → IsForm f → need s ≤ level f → Ends (level f) rest → m ≡ n + operators f → m ≤ 255 → p + depth f ≤ 256 → j ≡ i + length (text f)
     → run (due s n p) i (text f ++ rest) ≡ run (after s (tree f) (level f) m p) j rest
@@ -209,9 +210,9 @@ reads (column None x) s n p i m j rest is ok ends m-is few flat j-is =
 reads (column (Some y) x) s n p i m j rest is ok ends m-is few flat j-is =
     let a : m ≡ n = omega arith in let b : j ≡ suc (suc (suc i)) = omega arith in rw (a, b) refl
 reads (parens f) s n p i m j rest is ok ends m-is few flat j-is =
-    let opened = goes (ltb p 256) (due (Opened Group ∷ s) n (suc p)) i (λ s. run s (suc i) ((text f ++ Fixed mark.Close ∷ []) ++ rest)) (le-leb (suc p) 256 (omega arith)) in
-    let inner = reads f (Opened Group ∷ s) n (suc p) (suc i) m (suc i + length (text f)) (Fixed mark.Close ∷ rest) is (omega arith) tt m-is few (omega arith) refl in
-    opened ∙ encloses Group s (tree f) (level f) n m p (suc i) (suc i + length (text f)) j (text f) rest inner (omega (arith, length-append (text f) (Fixed mark.Close ∷ [])))
+    let opened = goes (ltb p 256) (due (Opened Group ∷ s) n (suc p)) i (λ s. run s (suc i) ((text f ++ Fixed symbol.Close ∷ []) ++ rest)) (le-leb (suc p) 256 (omega arith)) in
+    let inner = reads f (Opened Group ∷ s) n (suc p) (suc i) m (suc i + length (text f)) (Fixed symbol.Close ∷ rest) is (omega arith) tt m-is few (omega arith) refl in
+    opened ∙ encloses Group s (tree f) (level f) n m p (suc i) (suc i + length (text f)) j (text f) rest inner (omega (arith, length-append (text f) (Fixed symbol.Close ∷ [])))
 reads (not f) s n p i m j rest is ok ends m-is few flat j-is =
     let taken = goes (leb (need s) 2 && ltb n 255) (due (Negation ∷ s) (suc n) p) i (λ s. run s (suc i) (text f ++ rest)) (both _ _ (le-leb (need s) 2 ok) (le-leb (suc n) 255 (omega arith))) in
     let inner = reads f (Negation ∷ s) (suc n) p (suc i) m j rest is.1 is.0 (ends_up 2 (level f) rest is.0 ends) (omega arith) few flat (omega arith) in
@@ -222,59 +223,59 @@ reads (minus f) s n p i m j rest is ok ends m-is few flat j-is =
     taken ∙ inner ∙ pop_minus s (tree f) (level f) m p j rest is.0 ends
 reads (binary o f g) s n p i m j rest is ok ends m-is few flat j-is =
     let ll = level_le_left o in
-    let before : Ends (level f) (Fixed (mark_of o) ∷ (text g ++ rest)) = subst (EndsAt (level f)) (sym (cue_mark o)) is.0 in
-    let first = reads f s n p i (n + operators f) (i + length (text f)) (Fixed (mark_of o) ∷ (text g ++ rest)) is.2 (omega arith) before refl (omega arith) (omega arith) refl in
+    let before : Ends (level f) (Fixed (symbol_of o) ∷ (text g ++ rest)) = subst (EndsAt (level f)) (sym (cue_symbol o)) is.0 in
+    let first = reads f s n p i (n + operators f) (i + length (text f)) (Fixed (symbol_of o) ∷ (text g ++ rest)) is.2 (omega arith) before refl (omega arith) (omega arith) refl in
     let taken = operates o s (tree f) (level f) (n + operators f) p (i + length (text f)) (text g ++ rest) is.0 ok (omega arith) in
-    let len : j ≡ suc (i + length (text f)) + length (text g) = omega (arith, length-append (text f) (Fixed (mark_of o) ∷ text g)) in
+    let len : j ≡ suc (i + length (text f)) + length (text g) = omega (arith, length-append (text f) (Fixed (symbol_of o) ∷ text g)) in
     let second = reads g (Infix o (tree f) ∷ s) (suc (n + operators f)) p (suc (i + length (text f))) m j rest is.3 is.1 (ends_up (level_of o) (level g) rest (omega (arith, is.1)) ends) (omega arith) few (omega arith) len in
-    ap (run (due s n p) i) (append_assoc (text f) (Fixed (mark_of o) ∷ text g) rest) ∙ first ∙ taken ∙ second ∙ pop_infix o (tree f) s (tree g) (level g) m p j rest (omega (arith, is.1)) ends
+    ap (run (due s n p) i) (append_assoc (text f) (Fixed (symbol_of o) ∷ text g) rest) ∙ first ∙ taken ∙ second ∙ pop_infix o (tree f) s (tree g) (level g) m p j rest (omega (arith, is.1)) ends
 reads (is_null f b) s n p i m j rest is ok ends m-is few flat j-is =
-    let first = reads f s n p i (n + operators f) (i + length (text f)) (Fixed mark.Is ∷ (null_text b ++ rest)) is.1 (omega (arith, is.0)) is.0 refl (omega arith) (omega arith) refl in
+    let first = reads f s n p i (n + operators f) (i + length (text f)) (Fixed symbol.Is ∷ (null_text b ++ rest)) is.1 (omega (arith, is.0)) is.0 refl (omega arith) (omega arith) refl in
     let asked = asks s (tree f) (level f) (n + operators f) p (i + length (text f)) (λ s. run s (suc (i + length (text f))) (null_text b ++ rest)) is.0 ok (omega arith) in
     let m-ends : suc (n + operators f) ≡ m = omega arith in
-    ap (run (due s n p) i) (append_assoc (text f) (Fixed mark.Is ∷ null_text b) rest) ∙ first ∙ asked ∙ ap (λ n. run (is_due s (tree f) n p) (suc (i + length (text f))) (null_text b ++ rest)) m-ends
-    ∙ answers b (omega (arith, length-append (text f) (Fixed mark.Is ∷ null_text b)))
+    ap (run (due s n p) i) (append_assoc (text f) (Fixed symbol.Is ∷ null_text b) rest) ∙ first ∙ asked ∙ ap (λ n. run (is_due s (tree f) n p) (suc (i + length (text f))) (null_text b ++ rest)) m-ends
+    ∙ answers b (omega (arith, length-append (text f) (Fixed symbol.Is ∷ null_text b)))
   where
     answers : (b : Bool) → j ≡ suc (i + length (text f)) + length (null_text b) → run (is_due s (tree f) m p) (suc (i + length (text f))) (null_text b ++ rest) ≡ run (after s (e.IsNull (tree f) b) 3 m p) j rest
     answers true h = ap (λ k. run (after s (e.IsNull (tree f) true) 3 m p) k rest) (let h : suc (suc (i + length (text f))) ≡ j = omega arith in h)
     answers false h = ap (λ k. run (after s (e.IsNull (tree f) false) 3 m p) k rest) (let h : suc (suc (suc (i + length (text f)))) ≡ j = omega arith in h)
 reads count_all s n p i m j rest is ok ends m-is few flat j-is =
     let a : m ≡ suc n = omega arith in let b : j ≡ suc (suc (suc (suc i))) = omega arith in
-    rw (a, b) (goes (ltb n 255 && ltb p 256) _ (suc i) (λ s. run s (suc (suc i)) (Fixed mark.Star ∷ Fixed mark.Close ∷ rest)) (both _ _ (le-leb (suc n) 255 (omega arith)) (le-leb (suc p) 256 (omega arith))))
+    rw (a, b) (goes (ltb n 255 && ltb p 256) _ (suc i) (λ s. run s (suc (suc i)) (Fixed symbol.Star ∷ Fixed symbol.Close ∷ rest)) (both _ _ (le-leb (suc n) 255 (omega arith)) (le-leb (suc p) 256 (omega arith))))
 reads (aggregate g f) s n p i m j rest is ok ends m-is few flat j-is =
-    let called = calls (fold_name g) (Aggregate g) s n p i ((text f ++ Fixed mark.Close ∷ []) ++ rest) (fold_called g) (omega arith) (omega arith) in
-    let inner = reads f (Opened (Aggregate g) ∷ s) (suc n) (suc p) (suc (suc i)) m (suc (suc i) + length (text f)) (Fixed mark.Close ∷ rest) is (omega arith) tt (omega arith) few (omega arith) refl in
-    called ∙ encloses (Aggregate g) s (tree f) (level f) (suc n) m p (suc (suc i)) (suc (suc i) + length (text f)) j (text f) rest inner (omega (arith, length-append (text f) (Fixed mark.Close ∷ [])))
+    let called = calls (fold_name g) (Aggregate g) s n p i ((text f ++ Fixed symbol.Close ∷ []) ++ rest) (fold_called g) (omega arith) (omega arith) in
+    let inner = reads f (Opened (Aggregate g) ∷ s) (suc n) (suc p) (suc (suc i)) m (suc (suc i) + length (text f)) (Fixed symbol.Close ∷ rest) is (omega arith) tt (omega arith) few (omega arith) refl in
+    called ∙ encloses (Aggregate g) s (tree f) (level f) (suc n) m p (suc (suc i)) (suc (suc i) + length (text f)) j (text f) rest inner (omega (arith, length-append (text f) (Fixed symbol.Close ∷ [])))
 reads (access g f) s n p i m j rest is ok ends m-is few flat j-is =
-    let called = calls (part_name g) (Access g) s n p i ((text f ++ Fixed mark.Close ∷ []) ++ rest) (part_called g) (omega arith) (omega arith) in
-    let inner = reads f (Opened (Access g) ∷ s) (suc n) (suc p) (suc (suc i)) m (suc (suc i) + length (text f)) (Fixed mark.Close ∷ rest) is (omega arith) tt (omega arith) few (omega arith) refl in
-    called ∙ encloses (Access g) s (tree f) (level f) (suc n) m p (suc (suc i)) (suc (suc i) + length (text f)) j (text f) rest inner (omega (arith, length-append (text f) (Fixed mark.Close ∷ [])))
+    let called = calls (part_name g) (Access g) s n p i ((text f ++ Fixed symbol.Close ∷ []) ++ rest) (part_called g) (omega arith) (omega arith) in
+    let inner = reads f (Opened (Access g) ∷ s) (suc n) (suc p) (suc (suc i)) m (suc (suc i) + length (text f)) (Fixed symbol.Close ∷ rest) is (omega arith) tt (omega arith) few (omega arith) refl in
+    called ∙ encloses (Access g) s (tree f) (level f) (suc n) m p (suc (suc i)) (suc (suc i) + length (text f)) j (text f) rest inner (omega (arith, length-append (text f) (Fixed symbol.Close ∷ [])))
 reads (dlvalue1 f) s n p i m j rest is ok ends m-is few flat j-is =
-    let called = calls words.dlvalue Dlvalue1 s n p i ((text f ++ Fixed mark.Close ∷ []) ++ rest) refl (omega arith) (omega arith) in
-    let inner = reads f (Opened Dlvalue1 ∷ s) (suc n) (suc p) (suc (suc i)) m (suc (suc i) + length (text f)) (Fixed mark.Close ∷ rest) is (omega arith) tt (omega arith) few (omega arith) refl in
-    called ∙ encloses Dlvalue1 s (tree f) (level f) (suc n) m p (suc (suc i)) (suc (suc i) + length (text f)) j (text f) rest inner (omega (arith, length-append (text f) (Fixed mark.Close ∷ [])))
+    let called = calls words.dlvalue Dlvalue1 s n p i ((text f ++ Fixed symbol.Close ∷ []) ++ rest) refl (omega arith) (omega arith) in
+    let inner = reads f (Opened Dlvalue1 ∷ s) (suc n) (suc p) (suc (suc i)) m (suc (suc i) + length (text f)) (Fixed symbol.Close ∷ rest) is (omega arith) tt (omega arith) few (omega arith) refl in
+    called ∙ encloses Dlvalue1 s (tree f) (level f) (suc n) m p (suc (suc i)) (suc (suc i) + length (text f)) j (text f) rest inner (omega (arith, length-append (text f) (Fixed symbol.Close ∷ [])))
 reads (dlvalue2 f g) s n p i m j rest is ok ends m-is few flat j-is =
-    let tail = text g ++ Fixed mark.Close ∷ [] in
-    let len = length-append (text f) (Fixed mark.Comma ∷ tail) in
-    let len' = length-append (text g) (Fixed mark.Close ∷ []) in
+    let tail = text g ++ Fixed symbol.Close ∷ [] in
+    let len = length-append (text f) (Fixed symbol.Comma ∷ tail) in
+    let len' = length-append (text g) (Fixed symbol.Close ∷ []) in
     let k = suc (suc i) + length (text f) in
-    let called = calls words.dlvalue Dlvalue1 s n p i ((text f ++ Fixed mark.Comma ∷ tail) ++ rest) refl (omega arith) (omega arith) in
-    let first = reads f (Opened Dlvalue1 ∷ s) (suc n) (suc p) (suc (suc i)) (suc n + operators f) k (Fixed mark.Comma ∷ (tail ++ rest)) is.0 (omega arith) tt refl (omega arith) (omega arith) refl in
-    let second = reads g (Opened (Dlvalue2 (tree f)) ∷ s) (suc n + operators f) (suc p) (suc k) m (suc k + length (text g)) (Fixed mark.Close ∷ rest) is.1 (omega arith) tt (omega arith) few (omega arith) refl in
-    called ∙ ap (run (due (Opened Dlvalue1 ∷ s) (suc n) (suc p)) (suc (suc i))) (append_assoc (text f) (Fixed mark.Comma ∷ tail) rest) ∙ first
+    let called = calls words.dlvalue Dlvalue1 s n p i ((text f ++ Fixed symbol.Comma ∷ tail) ++ rest) refl (omega arith) (omega arith) in
+    let first = reads f (Opened Dlvalue1 ∷ s) (suc n) (suc p) (suc (suc i)) (suc n + operators f) k (Fixed symbol.Comma ∷ (tail ++ rest)) is.0 (omega arith) tt refl (omega arith) (omega arith) refl in
+    let second = reads g (Opened (Dlvalue2 (tree f)) ∷ s) (suc n + operators f) (suc p) (suc k) m (suc k + length (text g)) (Fixed symbol.Close ∷ rest) is.1 (omega arith) tt (omega arith) few (omega arith) refl in
+    called ∙ ap (run (due (Opened Dlvalue1 ∷ s) (suc n) (suc p)) (suc (suc i))) (append_assoc (text f) (Fixed symbol.Comma ∷ tail) rest) ∙ first
     ∙ encloses (Dlvalue2 (tree f)) s (tree g) (level g) (suc n + operators f) m p (suc k) (suc k + length (text g)) j (text g) rest second (omega (arith, len, len'))
 reads (dlvalue3 f g h) s n p i m j rest is ok ends m-is few flat j-is =
-    let last = text h ++ Fixed mark.Close ∷ [] in
-    let tail = text g ++ Fixed mark.Comma ∷ last in
-    let len = length-append (text f) (Fixed mark.Comma ∷ tail) in
-    let len' = length-append (text g) (Fixed mark.Comma ∷ last) in
-    let len'' = length-append (text h) (Fixed mark.Close ∷ []) in
+    let last = text h ++ Fixed symbol.Close ∷ [] in
+    let tail = text g ++ Fixed symbol.Comma ∷ last in
+    let len = length-append (text f) (Fixed symbol.Comma ∷ tail) in
+    let len' = length-append (text g) (Fixed symbol.Comma ∷ last) in
+    let len'' = length-append (text h) (Fixed symbol.Close ∷ []) in
     let k = suc (suc i) + length (text f) in
     let q = suc k + length (text g) in
-    let called = calls words.dlvalue Dlvalue1 s n p i ((text f ++ Fixed mark.Comma ∷ tail) ++ rest) refl (omega arith) (omega arith) in
-    let first = reads f (Opened Dlvalue1 ∷ s) (suc n) (suc p) (suc (suc i)) (suc n + operators f) k (Fixed mark.Comma ∷ (tail ++ rest)) is.0 (omega arith) tt refl (omega arith) (omega arith) refl in
-    let second = reads g (Opened (Dlvalue2 (tree f)) ∷ s) (suc n + operators f) (suc p) (suc k) (suc n + operators f + operators g) q (Fixed mark.Comma ∷ (last ++ rest)) is.1 (omega arith) tt refl (omega arith) (omega arith) refl in
-    let third = reads h (Opened (Dlvalue3 (tree f) (tree g)) ∷ s) (suc n + operators f + operators g) (suc p) (suc q) m (suc q + length (text h)) (Fixed mark.Close ∷ rest) is.2 (omega arith) tt (omega arith) few (omega arith) refl in
-    called ∙ ap (run (due (Opened Dlvalue1 ∷ s) (suc n) (suc p)) (suc (suc i))) (append_assoc (text f) (Fixed mark.Comma ∷ tail) rest) ∙ first
-    ∙ ap (run (due (Opened (Dlvalue2 (tree f)) ∷ s) (suc n + operators f) (suc p)) (suc k)) (append_assoc (text g) (Fixed mark.Comma ∷ last) rest) ∙ second
+    let called = calls words.dlvalue Dlvalue1 s n p i ((text f ++ Fixed symbol.Comma ∷ tail) ++ rest) refl (omega arith) (omega arith) in
+    let first = reads f (Opened Dlvalue1 ∷ s) (suc n) (suc p) (suc (suc i)) (suc n + operators f) k (Fixed symbol.Comma ∷ (tail ++ rest)) is.0 (omega arith) tt refl (omega arith) (omega arith) refl in
+    let second = reads g (Opened (Dlvalue2 (tree f)) ∷ s) (suc n + operators f) (suc p) (suc k) (suc n + operators f + operators g) q (Fixed symbol.Comma ∷ (last ++ rest)) is.1 (omega arith) tt refl (omega arith) (omega arith) refl in
+    let third = reads h (Opened (Dlvalue3 (tree f) (tree g)) ∷ s) (suc n + operators f + operators g) (suc p) (suc q) m (suc q + length (text h)) (Fixed symbol.Close ∷ rest) is.2 (omega arith) tt (omega arith) few (omega arith) refl in
+    called ∙ ap (run (due (Opened Dlvalue1 ∷ s) (suc n) (suc p)) (suc (suc i))) (append_assoc (text f) (Fixed symbol.Comma ∷ tail) rest) ∙ first
+    ∙ ap (run (due (Opened (Dlvalue2 (tree f)) ∷ s) (suc n + operators f) (suc p)) (suc k)) (append_assoc (text g) (Fixed symbol.Comma ∷ last) rest) ∙ second
     ∙ encloses (Dlvalue3 (tree f) (tree g)) s (tree h) (level h) (suc n + operators f + operators g) m p (suc q) (suc q + length (text h)) j (text h) rest third (omega (arith, len, len', len''))

@@ -2,7 +2,8 @@
 use Rattle.std.proofs.Common.{◌≡◌, List, [], ◌∷◌, ◌++◌, Some, None, ◌⊎◌, inl, inr, refl, sym, ap, ◌∙◌, subst, append_assoc}
 use Rattle.sql_grammar.specs.declared.token.Token.{Token}
 use Rattle.sql_grammar.specs.declared.terminal.Terminal.{Terminal}
-use Rattle.sql_grammar.specs.Lang.{Lang, terminal_of, After, Then, As, Maybe, Reader}
+use Rattle.sql_grammar.specs.Lang.{Lang, terminal_of, After, Then, As, Maybe}
+use Rattle.sql_grammar.specs.Readers.{Reader}
 use Rattle.sql_grammar.proofs.Readers.{Reads, Without, reads_before}
 
 -- the terminal is one of these tokens

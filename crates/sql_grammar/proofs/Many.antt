@@ -4,10 +4,11 @@ use Rattle.std.specs.Prelude.{slice_get}
 use Rattle.std.proofs.lemmas.List.{append-nil, length-drop}
 use Rattle.std.proofs.lemmas.Option.{slice_get_within}
 use Rattle.sql_grammar.specs.declared.token.Token.TheVariants as token
-use Rattle.sql_grammar.specs.declared.mark.Mark.TheVariants as mark
+use Rattle.sql_grammar.specs.declared.symbol.Symbol.TheVariants as symbol
 use Rattle.sql_grammar.specs.declared.terminal.Terminal.{Terminal}
 use Rattle.sql_grammar.specs.declared.terminal.Terminal.TheVariants.{Fixed}
-use Rattle.sql_grammar.specs.Lang.{Lang, Climbs, After, Many, Listed, Reader, ◌>>=◌, good, is_token, repeat_at, many_at, listed_at}
+use Rattle.sql_grammar.specs.Lang.{Lang, After, Many, Listed}
+use Rattle.sql_grammar.specs.Readers.{Climbs, Reader, ◌read_then◌, good, is_token, repeat_at, many_at, listed_at}
 use Rattle.sql_grammar.proofs.Readers.{place_of, Same, Took, Has, Told, Reads, Without, get_first, head_drop, drop_read, rises, cond_true, cond_false, is_token_same, reads_then, reads_map, reads_after, has_then, has_map}
 
 -- what is in the language begins with a terminal that passes
@@ -27,16 +28,16 @@ passes_within b ws i none e = by_symbol (slice_get ws i) refl
 
 module _ {A : Type 0} (b : Option Terminal → Bool) (R : Reader A) (L : Lang A) (E : List Terminal → Type 0) where
   abbrev Rest : ℕ → A → List Terminal → ℕ → Result (List A × ℕ) ℕ
-  Rest n x ws k = repeat_at b R n ws k >>= λ q. good (x ∷ q.0) q.1
+  Rest n x ws k = repeat_at b R n ws k read_then λ q. good (x ∷ q.0) q.1
 
   abbrev Step : ℕ → List Terminal → ℕ → Result (List A × ℕ) ℕ
-  Step n ws i = R ws i >>= λ p. Rest n p.0 ws p.1
+  Step n ws i = R ws i read_then λ p. Rest n p.0 ws p.1
 
   repeat_told : (n : ℕ) (ws : List Terminal) (i : ℕ) → Reads R L E → Told (Many L) ws i (repeat_at b R n ws i)
   repeat_told zero ws i r = inl refl
   repeat_told (suc n) ws i r = by_test (b (slice_get ws i)) (λ j. repeat_told n ws j r)
     where
-      rest : (x : A) (k : ℕ) (q : Result (List A × ℕ) ℕ) → Took L ws i x k → Told (Many L) ws k q → Told (Many L) ws i (q >>= λ q. good (x ∷ q.0) q.1)
+      rest : (x : A) (k : ℕ) (q : Result (List A × ℕ) ℕ) → Took L ws i x k → Told (Many L) ws k q → Told (Many L) ws i (q read_then λ q. good (x ∷ q.0) q.1)
       rest x k (Ok q) t u =
           let mid : drop k ws ≡ t.rest = ap (λ n. drop n ws) t.place ∙ drop_read ws i t.here t.rest t.parts in
           record { here = t.here ++ u.here; rest = u.rest; parts = t.parts ∙ ap (λ (y : List Terminal). t.here ++ y) (sym mid ∙ u.parts) ∙ sym (append_assoc t.here u.here u.rest); place = omega (arith, t.place, u.place, length-append t.here u.here); says = (t.here, u.here, refl, t.says, u.says) }
@@ -45,7 +46,7 @@ module _ {A : Type 0} (b : Option Terminal → Bool) (R : Reader A) (L : Lang A)
           let mid : drop k ws ≡ t.rest = ap (λ n. drop n ws) t.place ∙ drop_read ws i t.here t.rest t.parts in
           inr (record { here = t.here ++ u.here; rest = u.rest; more = u.more; value = x ∷ u.value; parts = t.parts ∙ ap (λ (y : List Terminal). t.here ++ y) (sym mid ∙ u.parts) ∙ sym (append_assoc t.here u.here u.rest); place = omega (arith, t.place, u.place, length-append t.here u.here); says = (t.here, u.here ++ u.more, append_assoc t.here u.here u.more, t.says, u.says); proper = u.proper })
 
-      first : (q : Result (A × ℕ) ℕ) → Told L ws i q → ((j : ℕ) → Told (Many L) ws j (repeat_at b R n ws j)) → Told (Many L) ws i (q >>= λ p. Rest n p.0 ws p.1)
+      first : (q : Result (A × ℕ) ℕ) → Told L ws i q → ((j : ℕ) → Told (Many L) ws j (repeat_at b R n ws j)) → Told (Many L) ws i (q read_then λ p. Rest n p.0 ws p.1)
       first (Ok p) t ih = rest p.0 p.1 (repeat_at b R n ws p.1) t (ih p.1)
       first (Err k) (inl e) ih = inl e
       first (Err k) (inr u) ih = inr (record { here = u.here; rest = u.rest; more = u.more; value = u.value ∷ []; parts = u.parts; place = u.place; says = (u.here ++ u.more, [], sym (append-nil (u.here ++ u.more)), u.says, refl); proper = u.proper })
@@ -81,7 +82,7 @@ module _ {A : Type 0} (b : Option Terminal → Bool) (R : Reader A) (L : Lang A)
       let one = r.reads ws i x a (c ++ rest) parts' says (part_ends xs c rest p on more ends) in
       let two = repeat_reads n xs ws (i + length a) c rest (omega arith) r p on (drop_read ws i a (c ++ rest) parts') more ends fails in
       let len : i + length a + length c ≡ i + length here = omega (arith, ap length whole, length-append a c) in
-      cond_true (b (slice_get ws i)) _ _ (ap b first ∙ f.3) ∙ ap (λ (q : Result (A × ℕ) ℕ). q >>= λ p. Rest n p.0 ws p.1) one ∙ ap (λ (q : Result (List A × ℕ) ℕ). q >>= λ q. good (x ∷ q.0) q.1) two ∙ ap (λ k. good (x ∷ xs) k) len
+      cond_true (b (slice_get ws i)) _ _ (ap b first ∙ f.3) ∙ ap (λ (q : Result (A × ℕ) ℕ). q read_then λ p. Rest n p.0 ws p.1) one ∙ ap (λ (q : Result (List A × ℕ) ℕ). q read_then λ q. good (x ∷ q.0) q.1) two ∙ ap (λ k. good (x ∷ xs) k) len
 
   -- a part takes one terminal at least
   took_one : (ws : List Terminal) (i : ℕ) (x : A) (k : ℕ) → Passes b L → Took L ws i x k → i < k
@@ -90,11 +91,11 @@ module _ {A : Type 0} (b : Option Terminal → Bool) (R : Reader A) (L : Lang A)
   rest_rises : (n : ℕ) (ws : List Terminal) (x : A) (k : ℕ) → Reads R L E → k ≤ place_of (Rest n x ws k)
   rest_rises n ws x k r = there (repeat_at b R n ws k) (rises (Many L) ws k (repeat_at b R n ws k) (repeat_told n ws k r))
     where
-      there : (q : Result (List A × ℕ) ℕ) → k ≤ place_of q → k ≤ place_of (q >>= λ q. good (x ∷ q.0) q.1)
+      there : (q : Result (List A × ℕ) ℕ) → k ≤ place_of q → k ≤ place_of (q read_then λ q. good (x ∷ q.0) q.1)
       there (Ok q) h = h
       there (Err f) h = h
 
-  step_rises : (n : ℕ) (ws : List Terminal) (q : Result (A × ℕ) ℕ) → Reads R L E → place_of q ≤ place_of (q >>= λ p. Rest n p.0 ws p.1)
+  step_rises : (n : ℕ) (ws : List Terminal) (q : Result (A × ℕ) ℕ) → Reads R L E → place_of q ≤ place_of (q read_then λ p. Rest n p.0 ws p.1)
   step_rises n ws (Ok p) r = rest_rises n ws p.0 p.1 r
   step_rises n ws (Err k) r = omega arith
 
@@ -107,14 +108,14 @@ module _ {A : Type 0} (b : Option Terminal → Bool) (R : Reader A) (L : Lang A)
       le : i ≤ k
       le = omega (arith, rises (Many L) ws i (repeat_at b R (suc n) ws i) (repeat_told (suc n) ws i r), at)
 
-      there : (x : A) (q : Result (List A × ℕ) ℕ) → place_of (q >>= λ q. good (x ∷ q.0) q.1) ≡ k → place_of q ≡ k
+      there : (x : A) (q : Result (List A × ℕ) ℕ) → place_of (q read_then λ q. good (x ∷ q.0) q.1) ≡ k → place_of q ≡ k
       there x (Ok q) h = h
       there x (Err f) h = h
 
-      rest : (q : Result (A × ℕ) ℕ) → Told L ws i q → i < length ws → i < length vs → place_of (q >>= λ p. Rest n p.0 ws p.1) ≡ k → ((j : ℕ) → length ws < n + j → length vs < m + j → 0 < n → 0 < m → place_of (repeat_at b R n ws j) ≡ k → repeat_at b R m vs j ≡ repeat_at b R n ws j) → (q >>= λ p. Rest m p.0 vs p.1) ≡ (q >>= λ p. Rest n p.0 ws p.1)
+      rest : (q : Result (A × ℕ) ℕ) → Told L ws i q → i < length ws → i < length vs → place_of (q read_then λ p. Rest n p.0 ws p.1) ≡ k → ((j : ℕ) → length ws < n + j → length vs < m + j → 0 < n → 0 < m → place_of (repeat_at b R n ws j) ≡ k → repeat_at b R m vs j ≡ repeat_at b R n ws j) → (q read_then λ p. Rest m p.0 vs p.1) ≡ (q read_then λ p. Rest n p.0 ws p.1)
       rest (Ok q) t iw iv at ih =
           let lt = took_one ws i q.0 q.1 p t in
-          ap (λ (y : Result (List A × ℕ) ℕ). y >>= λ y. good (q.0 ∷ y.0) y.1) (ih q.1 (omega arith) (omega arith) (omega arith) (omega arith) (there q.0 (repeat_at b R n ws q.1) at))
+          ap (λ (y : Result (List A × ℕ) ℕ). y read_then λ y. good (q.0 ∷ y.0) y.1) (ih q.1 (omega arith) (omega arith) (omega arith) (omega arith) (there q.0 (repeat_at b R n ws q.1) at))
       rest (Err f) t iw iv at ih = refl
 
       by_test : (c : Bool) → b (slice_get ws i) ≡ c → place_of (cond c (Step n ws i) (good [] i)) ≡ k → ((j : ℕ) → length ws < n + j → length vs < m + j → 0 < n → 0 < m → place_of (repeat_at b R n ws j) ≡ k → repeat_at b R m vs j ≡ repeat_at b R n ws j) → repeat_at b R (suc m) vs i ≡ cond c (Step n ws i) (good [] i)
@@ -123,7 +124,7 @@ module _ {A : Type 0} (b : Option Terminal → Bool) (R : Reader A) (L : Lang A)
           let e' : b (slice_get vs i) ≡ true = ap b (sym (same i le)) ∙ e in
           let up : place_of (R ws i) ≤ k = omega (arith, step_rises n ws (R ws i) r, at) in
           cond_true (b (slice_get vs i)) _ _ e'
-          ∙ ap (λ (q : Result (A × ℕ) ℕ). q >>= λ p. Rest m p.0 vs p.1) (r.local ws vs i (place_of (R ws i)) refl (λ j h. same j (omega arith)))
+          ∙ ap (λ (q : Result (A × ℕ) ℕ). q read_then λ p. Rest m p.0 vs p.1) (r.local ws vs i (place_of (R ws i)) refl (λ j h. same j (omega arith)))
           ∙ rest (R ws i) (r.told ws i) (passes_within b ws i none e) (passes_within b vs i none e') at ih
 
   many_law : Reads R L E → Passes b L → b None ≡ false → ((w : Terminal) (rest : List Terminal) → b (Some w) ≡ true → E (w ∷ rest)) → Reads (many_at b R) (Many L) (λ rest. E rest × Fails b rest)
@@ -151,25 +152,25 @@ has_many L = record { value = []; text = []; says = refl; proper = tt }
 
 -- ---- with commas between
 
-comma_is : (w : Terminal) → is_token (token.Mark mark.Comma) (Some w) ≡ true → w ≡ Fixed mark.Comma
-comma_is (Fixed mark.Comma) e = refl
+comma_is : (w : Terminal) → is_token (token.Symbol symbol.Comma) (Some w) ≡ true → w ≡ Fixed symbol.Comma
+comma_is (Fixed symbol.Comma) e = refl
 comma_is (Fixed _) e = absurd cc
 comma_is _ e = absurd cc
 
 -- a part, or a comma and what follows, where the parts have commas before them
-commas_end : {A : Type 0} (L : Lang A) (E : List Terminal → Type 0) (xs : List A) (a rest : List Terminal) → ((rest : List Terminal) → E (Fixed mark.Comma ∷ rest)) → Many (After (token.Mark mark.Comma) L) xs a → E rest → E (a ++ rest)
+commas_end : {A : Type 0} (L : Lang A) (E : List Terminal → Type 0) (xs : List A) (a rest : List Terminal) → ((rest : List Terminal) → E (Fixed symbol.Comma ∷ rest)) → Many (After (token.Symbol symbol.Comma) L) xs a → E rest → E (a ++ rest)
 commas_end L E [] a rest on says ends = subst (λ (y : List Terminal). E (y ++ rest)) (sym says) ends
 commas_end L E (x ∷ xs) a rest on says ends =
     let c = says.3 in
-    let e : a ≡ Fixed mark.Comma ∷ (c.0 ++ says.1) = says.2 ∙ ap (λ (y : List Terminal). y ++ says.1) c.1 in
+    let e : a ≡ Fixed symbol.Comma ∷ (c.0 ++ says.1) = says.2 ∙ ap (λ (y : List Terminal). y ++ says.1) c.1 in
     subst (λ (y : List Terminal). E (y ++ rest)) (sym e) (on ((c.0 ++ says.1) ++ rest))
 
-pub reads_listed : {A : Type 0} {R : Reader A} {L : Lang A} {E : List Terminal → Type 0} → Has L → Reads R L E → ((rest : List Terminal) → E (Fixed mark.Comma ∷ rest)) → Reads (listed_at R) (Listed L) (λ rest. E rest × Without (token.Mark mark.Comma) rest)
+pub reads_listed : {A : Type 0} {R : Reader A} {L : Lang A} {E : List Terminal → Type 0} → Has L → Reads R L E → ((rest : List Terminal) → E (Fixed symbol.Comma ∷ rest)) → Reads (listed_at R) (Listed L) (λ rest. E rest × Without (token.Symbol symbol.Comma) rest)
 unfolding listed_at
 reads_listed {L = L} {E = E} has r on =
-    reads_map (λ p. p.0 ∷ p.1) (reads_then r (reads_many (is_token (token.Mark mark.Comma)) (reads_after (token.Mark mark.Comma) has r) (λ x a says. (Fixed mark.Comma, says.0, says.1, is_token_same (token.Mark mark.Comma))) refl
+    reads_map (λ p. p.0 ∷ p.1) (reads_then r (reads_many (is_token (token.Symbol symbol.Comma)) (reads_after (token.Symbol symbol.Comma) has r) (λ x a says. (Fixed symbol.Comma, says.0, says.1, is_token_same (token.Symbol symbol.Comma))) refl
     (λ w rest e. subst (λ (y : Terminal). E (y ∷ rest)) (sym (comma_is w e)) (on rest)))
-    (has_many (After (token.Mark mark.Comma) L)) (λ xs a rest says ends. commas_end L E xs a rest on says ends.0))
+    (has_many (After (token.Symbol symbol.Comma) L)) (λ xs a rest says ends. commas_end L E xs a rest on says ends.0))
 
 pub has_listed : {A : Type 0} {L : Lang A} → Has L → Has (Listed L)
-has_listed {L = L} h = has_map (λ p. p.0 ∷ p.1) (has_then h (has_many (After (token.Mark mark.Comma) L)))
+has_listed {L = L} h = has_map (λ p. p.0 ∷ p.1) (has_then h (has_many (After (token.Symbol symbol.Comma) L)))

@@ -5,18 +5,18 @@ use Rattle.std.proofs.lemmas.List.{drop-drop, drop_at}
 use Rattle.std.proofs.lemmas.Bool.{eqb-true, eq-eqb}
 use denote.Enum.Bare.{same_true, true_same}
 use Rattle.dl_base.specs.Name.{name_test}
-use Rattle.sql_grammar.specs.contracts.mark.Mark.{the_type}
-use Rattle.sql_grammar.specs.declared.mark.Mark.{Mark}
+use Rattle.sql_grammar.specs.contracts.symbol.Symbol.{the_type}
+use Rattle.sql_grammar.specs.declared.symbol.Symbol.{Symbol}
 use Rattle.sql_grammar.specs.declared.token.Token.{Token}
 use Rattle.sql_grammar.specs.declared.token.Token.TheVariants as token
 use Rattle.sql_grammar.specs.declared.token.LinkWord.{LinkWord}
 use Rattle.sql_grammar.specs.declared.token.LinkWord.TheVariants as link
 use Rattle.sql_grammar.specs.declared.terminal.Terminal.{Terminal}
 use Rattle.sql_grammar.specs.declared.terminal.Terminal.TheVariants.{Fixed, Word}
-use Rattle.sql_grammar.specs.Words.{bytes_of}
-use Rattle.sql_grammar.specs.Machine.{same_bytes}
-use Rattle.sql_grammar.specs.Proper.{IsProper, AreProper, reserved_mark}
-use Rattle.sql_grammar.specs.Lang.{Lang, Rises, terminal_of, Just, After, Then, As, Or, Maybe, One, Before, Reader, ◌>>=◌, good, is_token, one_or, taken_at, one_at, maybe_taken_at, maybe_one_at, just_at, token_at, after_at, branch_at, map_at, beside, then_at, maybe_at, before_at}
+use Rattle.sql_grammar.specs.Words.{bytes_of, same_bytes}
+use Rattle.sql_grammar.specs.Proper.{IsProper, AreProper, reserved_symbol}
+use Rattle.sql_grammar.specs.Lang.{Lang, terminal_of, Just, After, Then, As, Or, Maybe, One, Before}
+use Rattle.sql_grammar.specs.Readers.{Rises, Reader, ◌read_then◌, good, is_token, one_or, taken_at, one_at, maybe_taken_at, maybe_one_at, just_at, token_at, after_at, branch_at, map_at, beside, then_at, maybe_at, before_at}
 
 -- where reading stopped
 abbrev pub place_of : {A : Type 0} → Result (A × ℕ) ℕ → ℕ
@@ -70,7 +70,7 @@ proper_append [] b h k = k
 proper_append (w ∷ a) b h k = (h.0, proper_append a b h.1 k)
 
 word_proper : (w : LinkWord) → IsProper (Word (bytes_of w))
-unfolding name_test reserved_mark
+unfolding name_test reserved_symbol
 word_proper link.Linktype = ((bytes_of link.Linktype, (refl, refl)), refl)
 word_proper link.Url = ((bytes_of link.Url, (refl, refl)), refl)
 word_proper link.No = ((bytes_of link.No, (refl, refl)), refl)
@@ -96,7 +96,7 @@ word_proper link.Unlink = ((bytes_of link.Unlink, (refl, refl)), refl)
 word_proper link.Restore = ((bytes_of link.Restore, (refl, refl)), refl)
 
 pub token_proper : (t : Token) → IsProper (terminal_of t)
-token_proper (token.Mark m) = tt
+token_proper (token.Symbol m) = tt
 token_proper (token.Word w) = word_proper w
 
 -- ---- the terminal at a place
@@ -138,15 +138,15 @@ same_bytes_same [] = refl
 same_bytes_same (x ∷ a) = rw (eq-eqb x x refl, same_bytes_same a) refl
 
 token_is : (t : Token) (o : Option Terminal) → is_token t o ≡ true → o ≡ Some (terminal_of t)
-token_is (token.Mark m) (Some (Fixed k)) e = ap (λ (x : Mark). Some (Fixed x)) (same_true the_type (search rules) k m e)
-token_is (token.Mark m) (Some (_)) e = absurd cc
-token_is (token.Mark m) None e = absurd cc
+token_is (token.Symbol m) (Some (Fixed k)) e = ap (λ (x : Symbol). Some (Fixed x)) (same_true the_type (search rules) k m e)
+token_is (token.Symbol m) (Some (_)) e = absurd cc
+token_is (token.Symbol m) None e = absurd cc
 token_is (token.Word w) (Some (Word x)) e = ap (λ (y : List ℕ). Some (Word y)) (same_bytes_is x (bytes_of w) e)
 token_is (token.Word w) (Some (_)) e = absurd cc
 token_is (token.Word w) None e = absurd cc
 
 pub is_token_same : (t : Token) → is_token t (Some (terminal_of t)) ≡ true
-is_token_same (token.Mark m) = true_same the_type m m refl
+is_token_same (token.Symbol m) = true_same the_type m m refl
 is_token_same (token.Word w) = same_bytes_same (bytes_of w)
 
 -- the token stands at the place
@@ -211,13 +211,13 @@ module _ {A B : Type 0} (R : Reader A) (S : Reader B) (L : Lang A) (M : Lang B) 
         proper = b.proper;
       })
 
-  first_told : (ws : List Terminal) (i : ℕ) (r : Result (A × ℕ) ℕ) → Has M → Reads S M F → Told L ws i r → Told (Then L M) ws i (r >>= λ p. beside p.0 (S ws p.1))
+  first_told : (ws : List Terminal) (i : ℕ) (r : Result (A × ℕ) ℕ) → Has M → Reads S M F → Told L ws i r → Told (Then L M) ws i (r read_then λ p. beside p.0 (S ws p.1))
   first_told ws i (Ok p) has s t = second_told ws i p.0 p.1 (S ws p.1) has t (s.told ws p.1)
   first_told ws i (Err k) has s (inl e) = inl e
   first_told ws i (Err k) has s (inr b) =
       inr (record { here = b.here; rest = b.rest; more = b.more ++ has.text; value = (b.value, has.value); parts = b.parts; place = b.place; says = (b.here ++ b.more, has.text, sym (append_assoc b.here b.more has.text), b.says, has.says); proper = proper_append b.more has.text b.proper has.proper })
 
-  then_local : (ws vs : List Terminal) (k : ℕ) (r : Result (A × ℕ) ℕ) → Reads S M F → place_of (r >>= λ p. beside p.0 (S ws p.1)) ≡ k → Same k ws vs → (r >>= λ p. beside p.0 (S vs p.1)) ≡ (r >>= λ p. beside p.0 (S ws p.1))
+  then_local : (ws vs : List Terminal) (k : ℕ) (r : Result (A × ℕ) ℕ) → Reads S M F → place_of (r read_then λ p. beside p.0 (S ws p.1)) ≡ k → Same k ws vs → (r read_then λ p. beside p.0 (S vs p.1)) ≡ (r read_then λ p. beside p.0 (S ws p.1))
   then_local ws vs k (Ok p) s at same = ap (λ (r : Result (B × ℕ) ℕ). beside p.0 r) (s.local ws vs p.1 k (there (S ws p.1) at) same)
     where
       there : (r : Result (B × ℕ) ℕ) → place_of (beside p.0 r) ≡ k → place_of r ≡ k
@@ -226,7 +226,7 @@ module _ {A B : Type 0} (R : Reader A) (S : Reader B) (L : Lang A) (M : Lang B) 
   then_local ws vs k (Err n) s at same = refl
 
   -- the first stops at or before the place where both stop
-  then_rises : (ws : List Terminal) (r : Result (A × ℕ) ℕ) → Reads S M F → place_of r ≤ place_of (r >>= λ p. beside p.0 (S ws p.1))
+  then_rises : (ws : List Terminal) (r : Result (A × ℕ) ℕ) → Reads S M F → place_of r ≤ place_of (r read_then λ p. beside p.0 (S ws p.1))
   then_rises ws (Ok p) s = there (S ws p.1) (rises M ws p.1 (S ws p.1) (s.told ws p.1))
     where
       there : (r : Result (B × ℕ) ℕ) → p.1 ≤ place_of r → p.1 ≤ place_of (beside p.0 r)
@@ -243,11 +243,11 @@ module _ {A B : Type 0} (R : Reader A) (S : Reader B) (L : Lang A) (M : Lang B) 
         let one = r.reads ws i x.0 a (b ++ rest) parts' says.3 (fits x.1 b rest says.4 ends) in
         let two = s.reads ws (i + length a) x.1 b rest (drop_read ws i a (b ++ rest) parts') says.4 ends in
         let len : i + length a + length b ≡ i + length here = omega (arith, ap length says.2, length-append a b) in
-        ap (λ (y : Result (A × ℕ) ℕ). y >>= λ p. beside p.0 (S ws p.1)) one ∙ ap (λ (y : Result (B × ℕ) ℕ). beside x.0 y) two ∙ ap (λ n. good (x.0, x.1) n) len;
+        ap (λ (y : Result (A × ℕ) ℕ). y read_then λ p. beside p.0 (S ws p.1)) one ∙ ap (λ (y : Result (B × ℕ) ℕ). beside x.0 y) two ∙ ap (λ n. good (x.0, x.1) n) len;
     local = λ ws vs i k at same.
         let le : place_of (R ws i) ≤ k = omega (arith, then_rises ws (R ws i) s, at) in
         let one = r.local ws vs i (place_of (R ws i)) refl (λ j h. same j (omega arith)) in
-        ap (λ (y : Result (A × ℕ) ℕ). y >>= λ p. beside p.0 (S vs p.1)) one ∙ then_local ws vs k (R ws i) s at same;
+        ap (λ (y : Result (A × ℕ) ℕ). y read_then λ p. beside p.0 (S vs p.1)) one ∙ then_local ws vs k (R ws i) s at same;
   }
 
 pub reads_then : {A B : Type 0} {R : Reader A} {S : Reader B} {L : Lang A} {M : Lang B} {E F : List Terminal → Type 0} → Reads R L E → Reads S M F → Has M → ((y : B) (b rest : List Terminal) → M y b → F rest → E (b ++ rest)) → Reads (then_at R S) (Then L M) F
@@ -256,20 +256,20 @@ reads_then {R = R} {S = S} {L = L} {M = M} {E = E} {F = F} r s has fits = then_l
 -- ---- another meaning
 
 module _ {A B : Type 0} (f : A → B) (R : Reader A) (L : Lang A) (E : List Terminal → Type 0) where
-  map_told : (ws : List Terminal) (i : ℕ) (r : Result (A × ℕ) ℕ) → Told L ws i r → Told (As f L) ws i (r >>= λ p. Ok (f p.0, p.1))
+  map_told : (ws : List Terminal) (i : ℕ) (r : Result (A × ℕ) ℕ) → Told L ws i r → Told (As f L) ws i (r read_then λ p. Ok (f p.0, p.1))
   map_told ws i (Ok p) t = record { here = t.here; rest = t.rest; parts = t.parts; place = t.place; says = (p.0, refl, t.says) }
   map_told ws i (Err k) (inl e) = inl e
   map_told ws i (Err k) (inr b) = inr (record { here = b.here; rest = b.rest; more = b.more; value = f b.value; parts = b.parts; place = b.place; says = (b.value, refl, b.says); proper = b.proper })
 
-  map_place : (r : Result (A × ℕ) ℕ) → place_of (r >>= λ p. good (f p.0) p.1) ≡ place_of r
+  map_place : (r : Result (A × ℕ) ℕ) → place_of (r read_then λ p. good (f p.0) p.1) ≡ place_of r
   map_place (Ok p) = refl
   map_place (Err k) = refl
 
   map_law : Reads R L E → Reads (map_at f R) (As f L) E
   map_law r = record {
     told = λ ws i. map_told ws i (R ws i) (r.told ws i);
-    reads = λ ws i x here rest parts says ends. ap (λ (y : Result (A × ℕ) ℕ). y >>= λ p. good (f p.0) p.1) (r.reads ws i says.0 here rest parts says.2 ends) ∙ ap (λ y. good y (i + length here)) says.1;
-    local = λ ws vs i k at same. ap (λ (y : Result (A × ℕ) ℕ). y >>= λ p. good (f p.0) p.1) (r.local ws vs i k (sym (map_place (R ws i)) ∙ at) same);
+    reads = λ ws i x here rest parts says ends. ap (λ (y : Result (A × ℕ) ℕ). y read_then λ p. good (f p.0) p.1) (r.reads ws i says.0 here rest parts says.2 ends) ∙ ap (λ y. good y (i + length here)) says.1;
+    local = λ ws vs i k at same. ap (λ (y : Result (A × ℕ) ℕ). y read_then λ p. good (f p.0) p.1) (r.local ws vs i k (sym (map_place (R ws i)) ∙ at) same);
   }
 
 pub reads_map : {A B : Type 0} (f : A → B) {R : Reader A} {L : Lang A} {E : List Terminal → Type 0} → Reads R L E → Reads (map_at f R) (As f L) E
@@ -278,10 +278,10 @@ reads_map f {R = R} {L = L} {E = E} r = map_law f R L E r
 -- ---- what a token begins, or else the rest
 
 module _ {A : Type 0} (t : Token) (L : Lang A) where
-  marked_told : (ws : List Terminal) (i : ℕ) (r : Result (A × ℕ) ℕ) → Has L → drop i ws ≡ terminal_of t ∷ drop (suc i) ws → Told L ws (suc i) r → Told (After t L) ws i r
-  marked_told ws i (Ok p) has e u = record { here = terminal_of t ∷ u.here; rest = u.rest; parts = e ∙ ap (λ (y : List Terminal). terminal_of t ∷ y) u.parts; place = omega (arith, u.place); says = (u.here, refl, u.says) }
-  marked_told ws i (Err k) has e (inl at) = inr (record { here = terminal_of t ∷ []; rest = drop (suc i) ws; more = has.text; value = has.value; parts = e; place = omega (arith, at); says = (has.text, refl, has.says); proper = has.proper })
-  marked_told ws i (Err k) has e (inr b) = inr (record { here = terminal_of t ∷ b.here; rest = b.rest; more = b.more; value = b.value; parts = e ∙ ap (λ (y : List Terminal). terminal_of t ∷ y) b.parts; place = omega (arith, b.place); says = (b.here ++ b.more, refl, b.says); proper = b.proper })
+  operand_symbol_told : (ws : List Terminal) (i : ℕ) (r : Result (A × ℕ) ℕ) → Has L → drop i ws ≡ terminal_of t ∷ drop (suc i) ws → Told L ws (suc i) r → Told (After t L) ws i r
+  operand_symbol_told ws i (Ok p) has e u = record { here = terminal_of t ∷ u.here; rest = u.rest; parts = e ∙ ap (λ (y : List Terminal). terminal_of t ∷ y) u.parts; place = omega (arith, u.place); says = (u.here, refl, u.says) }
+  operand_symbol_told ws i (Err k) has e (inl at) = inr (record { here = terminal_of t ∷ []; rest = drop (suc i) ws; more = has.text; value = has.value; parts = e; place = omega (arith, at); says = (has.text, refl, has.says); proper = has.proper })
+  operand_symbol_told ws i (Err k) has e (inr b) = inr (record { here = terminal_of t ∷ b.here; rest = b.rest; more = b.more; value = b.value; parts = e ∙ ap (λ (y : List Terminal). terminal_of t ∷ y) b.parts; place = omega (arith, b.place); says = (b.here ++ b.more, refl, b.says); proper = b.proper })
 
 -- what is in the language does not begin with the token, nor does what may follow it
 abbrev pub Apart : {A : Type 0} → Token → Lang A → (List Terminal → Type 0) → Type 0
@@ -289,7 +289,7 @@ Apart {A} t M E = (x : A) (here rest : List Terminal) → M x here → E rest �
 
 module _ {A : Type 0} (t : Token) (R S : Reader A) (L M : Lang A) (E : List Terminal → Type 0) where
   branch_told : (b : Bool) (ws : List Terminal) (i : ℕ) → is_token t (slice_get ws i) ≡ b → Has L → Reads R L E → Reads S M E → Told (Or (After t L) M) ws i (cond b (R ws (suc i)) (S ws i))
-  branch_told true ws i e has r s = left (R ws (suc i)) (marked_told t L ws i (R ws (suc i)) has (token_here t ws i e) (r.told ws (suc i)))
+  branch_told true ws i e has r s = left (R ws (suc i)) (operand_symbol_told t L ws i (R ws (suc i)) has (token_here t ws i e) (r.told ws (suc i)))
     where
       left : (q : Result (A × ℕ) ℕ) → Told (After t L) ws i q → Told (Or (After t L) M) ws i q
       left (Ok p) u = record { here = u.here; rest = u.rest; parts = u.parts; place = u.place; says = inl u.says }
@@ -378,7 +378,7 @@ after_is_branch : {A : Type 0} (t : Token) (R : Reader A) (ws : List Terminal) (
 unfolding token_at
 after_is_branch {A} t R ws i = by_test (is_token t (slice_get ws i))
   where
-    by_test : (b : Bool) → cond b (R ws (suc i)) (Err i) ≡ (cond b (Ok (suc i)) (Err i) >>= λ k. R ws k)
+    by_test : (b : Bool) → cond b (R ws (suc i)) (Err i) ≡ (cond b (Ok (suc i)) (Err i) read_then λ k. R ws k)
     by_test true = refl
     by_test false = refl
 

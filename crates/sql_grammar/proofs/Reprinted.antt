@@ -20,9 +20,9 @@ use Rattle.dl_base.specs.declared.statement.Integrity.TheVariants as integrity
 use Rattle.dl_base.specs.declared.statement.KindDef.{KindDef}
 use Rattle.dl_base.specs.declared.statement.KindDef.TheVariants as kind
 use Rattle.dl_base.specs.declared.statement.Stmt.TheVariants as stmt
-use Rattle.sql_grammar.specs.declared.mark.Mark.TheVariants as mark
+use Rattle.sql_grammar.specs.declared.symbol.Symbol.TheVariants as symbol
 use Rattle.sql_grammar.specs.declared.token.Token.{Token}
-use Rattle.sql_grammar.specs.declared.token.Token.TheVariants.{Mark, Word}
+use Rattle.sql_grammar.specs.declared.token.Token.TheVariants.{Symbol, Word}
 use Rattle.sql_grammar.specs.declared.token.LinkWord.TheVariants as link
 use Rattle.sql_grammar.specs.declared.terminal.Terminal.{Terminal}
 use Rattle.sql_grammar.specs.declared.terminal.Terminal.TheVariants as terminal
@@ -30,9 +30,9 @@ use Rattle.sql_grammar.specs.Proper.{AreProper}
 use Rattle.sql_grammar.specs.Dots.{is_dot}
 use Rattle.sql_grammar.specs.Lang.{Lang, terminal_of, Just, After, Then, As, Maybe, One, Many, Listed, Enclosed, Expression}
 use Rattle.sql_grammar.specs.Statements.{name_of, number_of, key_of, Name, IntegrityWord, ReadWord, WriteWord, YesNo, UnlinkWord, Unlinking, Recovery, Writing, Reading, chosen, Choices, Filed, Control, DatalinkTail, Kind, Rule, is_not_null, is_key, column_of, Column, CreateTail, DropTail, Tuple, InsertTail, Filter, Assigned, UpdateTail, DeleteTail, item_of, ItemText, Items, Alias, source_of, Source, Following, JoinTail, Joined, Sources, some_or_none, ref_of, RefText, Group, Direction, key_with, KeyText, Order, conditions_of, select_of, SelectTail, Sentence, Statement}
-use Rattle.sql_grammar.specs.declared.ink.Ink.{Ink}
-use Rattle.sql_grammar.specs.declared.ink.Ink.TheVariants as ink
-use Rattle.sql_grammar.specs.Inks.{said_by, inked, ink_of}
+use Rattle.sql_grammar.specs.declared.print_token.PrintToken.{PrintToken}
+use Rattle.sql_grammar.specs.declared.print_token.PrintToken.TheVariants as print_token
+use Rattle.sql_grammar.specs.PrintTokens.{print_terminal, print_terminals, print_token_of}
 use Rattle.sql_grammar.specs.Printing.{list_text, name_text, expr_text, integrity_text, read_text, write_text, yes_text, unlink_text, repeated, choices_text, control_text, kind_text, column_def_text, columns_text, tuple_text, assigned_text, filter_text, alias_text, item_text, items_text, source_text, joins_text, following_text, from_text, ref_text, group_text, key_by_text, direction_text, key_text, order_text, printed}
 use Rattle.sql_grammar.proofs.Printed.{proper_parts}
 use Rattle.sql_grammar.proofs.Again.{Again, Turns, Prints, again_then, again_after, again_as, again_just, again_left, again_right, again_enclosed, prints_then, turns_after, turns_as, turns_led, turns_or, turns_to, token_only, again_none, again_some, turns_maybe, again_empty, again_cons, prints_listed, prints_expression, prints_one}
@@ -51,19 +51,19 @@ number_is (terminal.Word m) z e = absurd cc
 number_is (terminal.Fixed m) z e = absurd cc
 number_is (terminal.Literal t) z e = absurd cc
 
-key_is : (w : Terminal) (k : KeyBy) → key_of w ≡ Some k → (w ≡ said_by (key_by_text k)) × (is_dot w ≡ false)
-key_is (terminal.Word m) k e = (let q : key_by.Name m ≡ k = cc in ap (λ k. said_by (key_by_text k)) q, refl)
-key_is (terminal.Number y) k e = (let q : key_by.Place y ≡ k = cc in ap (λ k. said_by (key_by_text k)) q, refl)
+key_is : (w : Terminal) (k : KeyBy) → key_of w ≡ Some k → (w ≡ print_terminal (key_by_text k)) × (is_dot w ≡ false)
+key_is (terminal.Word m) k e = (let q : key_by.Name m ≡ k = cc in ap (λ k. print_terminal (key_by_text k)) q, refl)
+key_is (terminal.Number y) k e = (let q : key_by.Place y ≡ k = cc in ap (λ k. print_terminal (key_by_text k)) q, refl)
 key_is (terminal.Fixed m) k e = absurd cc
 key_is (terminal.Literal t) k e = absurd cc
 
 prints_name : Prints Name name_text
-prints_name = prints_one name_of ink.Name name_is
+prints_name = prints_one name_of print_token.Name name_is
 
 -- ---- link control
 
 -- a token for one value, among others
-the_token : {A : Type 0} (t : Token) (y : A) → (is_dot (terminal_of t) ≡ false) → Again (After t (Just y)) y (ink_of t ∷ [])
+the_token : {A : Type 0} (t : Token) (y : A) → (is_dot (terminal_of t) ≡ false) → Again (After t (Just y)) y (print_token_of t ∷ [])
 the_token t y flat = again_after t flat (again_just y)
 
 prints_integrity : Prints IntegrityWord (λ x. integrity_text x ∷ [])
@@ -91,23 +91,23 @@ prints_yes_no =
 prints_unlink : Prints UnlinkWord (λ x. unlink_text x ∷ [])
 prints_unlink =
     turns_or (turns_to (After (Word link.Restore) (Just unlink.Restore)) (λ x. unlink_text x ∷ []) unlink.Restore (token_only (Word link.Restore) unlink.Restore) (again_left _ (the_token (Word link.Restore) unlink.Restore refl)))
-    (turns_or (turns_to (After (Mark mark.Delete) (Just unlink.Delete)) (λ x. unlink_text x ∷ []) unlink.Delete (token_only (Mark mark.Delete) unlink.Delete) (again_right _ (again_left _ (the_token (Mark mark.Delete) unlink.Delete refl))))
+    (turns_or (turns_to (After (Symbol symbol.Delete) (Just unlink.Delete)) (λ x. unlink_text x ∷ []) unlink.Delete (token_only (Symbol symbol.Delete) unlink.Delete) (again_right _ (again_left _ (the_token (Symbol symbol.Delete) unlink.Delete refl))))
     (turns_to (After (Word link.None) (Just unlink.Nothing)) (λ x. unlink_text x ∷ []) unlink.Nothing (token_only (Word link.None) unlink.Nothing) (again_right _ (again_right _ (the_token (Word link.None) unlink.Nothing refl)))))
 
-abbrev unlinking_text : unlink.the_data → List Ink
-unlinking_text u = ink.Mark mark.On ∷ ink_of (Word link.Unlink) ∷ unlink_text u ∷ []
+abbrev unlinking_text : unlink.the_data → List PrintToken
+unlinking_text u = print_token.Symbol symbol.On ∷ print_token_of (Word link.Unlink) ∷ unlink_text u ∷ []
 
 abbrev Unlinked : Lang unlink.the_data
-Unlinked = After (Mark mark.On) (After (Word link.Unlink) UnlinkWord)
+Unlinked = After (Symbol symbol.On) (After (Word link.Unlink) UnlinkWord)
 
 unlinked : Turns Unlinked Unlinked unlinking_text
-unlinked = turns_after (Mark mark.On) (After (Word link.Unlink) UnlinkWord) refl (turns_after (Word link.Unlink) UnlinkWord refl prints_unlink)
+unlinked = turns_after (Symbol symbol.On) (After (Word link.Unlink) UnlinkWord) refl (turns_after (Word link.Unlink) UnlinkWord refl prints_unlink)
 
 -- the part is printed also where it was left out
 prints_unlinking : Prints Unlinking unlinking_text
 prints_unlinking x ws (inl says) proper = again_left (Just unlink.Nothing) (unlinked x ws says proper)
 prints_unlinking x ws (inr says) proper =
-    subst (λ y. Again Unlinking y (unlinking_text y)) (sym says.0) (again_left (Just unlink.Nothing) (again_after (Mark mark.On) refl (again_after (Word link.Unlink) refl (again_right _ (again_right _ (the_token (Word link.None) unlink.Nothing refl))))))
+    subst (λ y. Again Unlinking y (unlinking_text y)) (sym says.0) (again_left (Just unlink.Nothing) (again_after (Symbol symbol.On) refl (again_after (Word link.Unlink) refl (again_right _ (again_right _ (the_token (Word link.None) unlink.Nothing refl))))))
 
 prints_choices : Prints Choices choices_text
 prints_choices =
@@ -117,13 +117,13 @@ prints_choices =
     (turns_after (Word link.Recovery) (Then YesNo Unlinking) refl (prints_then prints_yes_no prints_unlinking))))))))))
 
 -- a type that is a datalink's is printed with what is behind DATALINK
-choices_control : (k : KindDef) (ws : List Terminal) → Choices k ws → (control_text k ≡ ink_of (Word link.File) ∷ ink_of (Word link.Link) ∷ ink_of (Word link.Control) ∷ choices_text k) × (kind_text k ≡ ink.Mark mark.Datalink ∷ control_text k)
-choices_control k ws says = subst (λ k. (control_text k ≡ ink_of (Word link.File) ∷ ink_of (Word link.Link) ∷ ink_of (Word link.Control) ∷ choices_text k) × (kind_text k ≡ ink.Mark mark.Datalink ∷ control_text k)) says.1 (refl, refl)
+choices_control : (k : KindDef) (ws : List Terminal) → Choices k ws → (control_text k ≡ print_token_of (Word link.File) ∷ print_token_of (Word link.Link) ∷ print_token_of (Word link.Control) ∷ choices_text k) × (kind_text k ≡ print_token.Symbol symbol.Datalink ∷ control_text k)
+choices_control k ws says = subst (λ k. (control_text k ≡ print_token_of (Word link.File) ∷ print_token_of (Word link.Link) ∷ print_token_of (Word link.Control) ∷ choices_text k) × (kind_text k ≡ print_token.Symbol symbol.Datalink ∷ control_text k)) says.1 (refl, refl)
 
 -- what is behind DATALINK, and that the type is printed so
 record Controlled (k : KindDef) : Type 0 where
   control : Again Control k (control_text k)
-  whole : kind_text k ≡ ink.Mark mark.Datalink ∷ control_text k
+  whole : kind_text k ≡ print_token.Symbol symbol.Datalink ∷ control_text k
 
 free : Controlled kind.Free
 free = record { control = again_right _ (again_right _ (again_just kind.Free)); whole = refl }
@@ -137,9 +137,9 @@ db2 = record {
 controlled_choices : (k : KindDef) (ws : List Terminal) → Choices k ws → AreProper ws → Controlled k
 controlled_choices k ws says proper =
     let same = choices_control k ws says in
-    let made : Again Control k (ink_of (Word link.File) ∷ ink_of (Word link.Link) ∷ ink_of (Word link.Control) ∷ choices_text k) =
+    let made : Again Control k (print_token_of (Word link.File) ∷ print_token_of (Word link.Link) ∷ print_token_of (Word link.Control) ∷ choices_text k) =
     again_right _ (again_left _ (again_after (Word link.File) refl (again_after (Word link.Link) refl (again_after (Word link.Control) refl (again_right _ (prints_choices k ws says proper)))))) in
-    record { control = subst (λ (a : List Ink). Again Control k a) (sym same.0) made; whole = same.1 }
+    record { control = subst (λ (a : List PrintToken). Again Control k a) (sym same.0) made; whole = same.1 }
 
 controlled_filed : (k : KindDef) (ws : List Terminal) → Filed k ws → AreProper ws → Controlled k
 controlled_filed k ws (inl says) proper = subst Controlled (sym says.2.2.0) db2
@@ -160,9 +160,9 @@ controlled_datalink k ws (inr says) proper = controlled k ws says proper
 -- ---- types and columns
 
 integer : Again Kind kind.Integer (kind_text kind.Integer)
-integer = again_left _ (the_token (Mark mark.Integer) kind.Integer refl)
+integer = again_left _ (the_token (Symbol symbol.Integer) kind.Integer refl)
 
-varchar : (k : KindDef) (ws : List Terminal) → After (Mark mark.Varchar) (As kind.Varchar (Enclosed (One number_of))) k ws → AreProper ws → Again Kind k (kind_text k)
+varchar : (k : KindDef) (ws : List Terminal) → After (Symbol symbol.Varchar) (As kind.Varchar (Enclosed (One number_of))) k ws → AreProper ws → Again Kind k (kind_text k)
 varchar k ws says proper =
     let a = (subst AreProper says.1 proper).1 in
     let n = says.2.0 in
@@ -172,8 +172,8 @@ varchar k ws says proper =
     let c = (proper_parts parts.0 parts.1 (subst AreProper parts.2 b)).0 in
     let m = inside.2.0.0 in
     let same : m ≡ n = inside.2.1 in
-    let number = prints_one number_of ink.Number number_is m parts.0 parts.3 c in
-    let made : Again Kind (kind.Varchar n) (kind_text (kind.Varchar n)) = again_right _ (again_right _ (again_left _ (again_after (Mark mark.Varchar) refl (again_as kind.Varchar (again_enclosed (subst (λ z. Again (One number_of) z (ink.Number z ∷ [])) same number)))))) in
+    let number = prints_one number_of print_token.Number number_is m parts.0 parts.3 c in
+    let made : Again Kind (kind.Varchar n) (kind_text (kind.Varchar n)) = again_right _ (again_right _ (again_left _ (again_after (Symbol symbol.Varchar) refl (again_as kind.Varchar (again_enclosed (subst (λ z. Again (One number_of) z (print_token.Number z ∷ [])) same number)))))) in
     subst (λ k. Again Kind k (kind_text k)) says.2.1 made
 
 prints_kind : Prints Kind kind_text
@@ -182,7 +182,7 @@ prints_kind k ws (inr (inl says)) proper = subst (λ k. Again Kind k (kind_text 
 prints_kind k ws (inr (inr (inl says))) proper = varchar k ws says proper
 prints_kind k ws (inr (inr (inr says))) proper =
     let c = controlled_datalink k says.0 says.2 (subst AreProper says.1 proper).1 in
-    subst (λ (a : List Ink). Again Kind k a) (sym c.whole) (again_right _ (again_right _ (again_right _ (again_after (Mark mark.Datalink) refl (again_right _ c.control)))))
+    subst (λ (a : List PrintToken). Again Kind k a) (sym c.whole) (again_right _ (again_right _ (again_right _ (again_after (Symbol symbol.Datalink) refl (again_right _ c.control)))))
 
 -- so many rules of each kind
 abbrev ruled : ℕ → ℕ → List ColumnRule
@@ -190,13 +190,13 @@ ruled zero zero = []
 ruled zero (suc k) = rule.Key ∷ ruled zero k
 ruled (suc n) k = rule.NotNull ∷ ruled n k
 
-abbrev rules_text : ℕ → ℕ → List Ink
-rules_text n k = repeated (ink.Mark mark.Not ∷ ink.Mark mark.Null ∷ []) n ++ repeated (ink.Mark mark.Primary ∷ ink.Mark mark.Key ∷ []) k
+abbrev rules_text : ℕ → ℕ → List PrintToken
+rules_text n k = repeated (print_token.Symbol symbol.Not ∷ print_token.Symbol symbol.Null ∷ []) n ++ repeated (print_token.Symbol symbol.Primary ∷ print_token.Symbol symbol.Key ∷ []) k
 
 rules_again : (n k : ℕ) → Again (Many Rule) (ruled n k) (rules_text n k)
 rules_again zero zero = again_empty Rule
-rules_again zero (suc k) = again_cons (again_right _ (again_after (Mark mark.Primary) refl (again_after (Mark mark.Key) refl (again_just rule.Key)))) (rules_again zero k)
-rules_again (suc n) k = again_cons (again_left _ (again_after (Mark mark.Not) refl (again_after (Mark mark.Null) refl (again_just rule.NotNull)))) (rules_again n k)
+rules_again zero (suc k) = again_cons (again_right _ (again_after (Symbol symbol.Primary) refl (again_after (Symbol symbol.Key) refl (again_just rule.Key)))) (rules_again zero k)
+rules_again (suc n) k = again_cons (again_left _ (again_after (Symbol symbol.Not) refl (again_after (Symbol symbol.Null) refl (again_just rule.NotNull)))) (rules_again n k)
 
 not_nulls_are : (n k : ℕ) → count_by is_not_null (ruled n k) ≡ n
 not_nulls_are zero zero = refl
@@ -208,7 +208,7 @@ keys_are zero zero = refl
 keys_are zero (suc k) = omega (arith, sum_by-cons (λ x. cond (is_key x) 1 0) rule.Key (ruled zero k), keys_are zero k)
 keys_are (suc n) k = omega (arith, keys_are n k)
 
-column_again : (x : List ℕ × (KindDef × List ColumnRule)) (a : List Ink) → Again Name x.0 (name_text x.0) → Again Kind x.1.0 (kind_text x.1.0) → Again Column (column_of x) (column_def_text (column_of x))
+column_again : (x : List ℕ × (KindDef × List ColumnRule)) (a : List PrintToken) → Again Name x.0 (name_text x.0) → Again Kind x.1.0 (kind_text x.1.0) → Again Column (column_of x) (column_def_text (column_of x))
 column_again x a name kind =
     let c = column_of x in
     let n = c.not_null in
@@ -225,23 +225,23 @@ prints_column c ws says proper =
     let s = proper_parts more.0 more.1 (subst AreProper more.2 r.1) in
     subst (λ c. Again Column c (column_def_text c)) says.1 (column_again x [] (prints_name x.0 parts.0 parts.3 r.0) (prints_kind x.1.0 more.0 more.3 s.0))
 
-prints_enclosed : {A : Type 0} (L : Lang A) (p : A → List Ink) → Prints L p → Prints (Enclosed L) (λ x. ink.Mark mark.Open ∷ (p x ++ ink.Mark mark.Close ∷ []))
+prints_enclosed : {A : Type 0} (L : Lang A) (p : A → List PrintToken) → Prints L p → Prints (Enclosed L) (λ x. print_token.Symbol symbol.Open ∷ (p x ++ print_token.Symbol symbol.Close ∷ []))
 prints_enclosed L p h x ws says proper =
     let a = (subst AreProper says.1 proper).1 in
     let inside = says.2 in
     let parts = inside.2 in
     let b = (proper_parts parts.0 parts.1 (subst AreProper parts.2 a)).0 in
-    subst (λ y. Again (Enclosed L) y (ink.Mark mark.Open ∷ (p y ++ ink.Mark mark.Close ∷ []))) inside.1 (again_enclosed (h inside.0.0 parts.0 parts.3 b))
+    subst (λ y. Again (Enclosed L) y (print_token.Symbol symbol.Open ∷ (p y ++ print_token.Symbol symbol.Close ∷ []))) inside.1 (again_enclosed (h inside.0.0 parts.0 parts.3 b))
 
 -- ---- statements other than SELECT
 
-prints_create : Prints (After (Mark mark.Create) CreateTail) printed
+prints_create : Prints (After (Symbol symbol.Create) CreateTail) printed
 prints_create =
-    turns_led (Mark mark.Create) (λ p. stmt.CreateTable p.0 p.1) printed refl
-    (turns_after (Mark mark.Table) (Then Name (Enclosed (Listed Column))) refl (prints_then prints_name (prints_enclosed (Listed Column) (list_text column_def_text) (prints_listed Column column_def_text prints_column)))) (λ x. refl)
+    turns_led (Symbol symbol.Create) (λ p. stmt.CreateTable p.0 p.1) printed refl
+    (turns_after (Symbol symbol.Table) (Then Name (Enclosed (Listed Column))) refl (prints_then prints_name (prints_enclosed (Listed Column) (list_text column_def_text) (prints_listed Column column_def_text prints_column)))) (λ x. refl)
 
-prints_drop : Prints (After (Mark mark.Drop) DropTail) printed
-prints_drop = turns_led (Mark mark.Drop) stmt.DropTable printed refl (turns_after (Mark mark.Table) Name refl prints_name) (λ x. refl)
+prints_drop : Prints (After (Symbol symbol.Drop) DropTail) printed
+prints_drop = turns_led (Symbol symbol.Drop) stmt.DropTable printed refl (turns_after (Symbol symbol.Table) Name refl prints_name) (λ x. refl)
 
 prints_tuple : Prints Tuple tuple_text
 prints_tuple = prints_enclosed (Listed Expression) (list_text expr_text) (prints_listed Expression expr_text prints_expression)
@@ -249,32 +249,32 @@ prints_tuple = prints_enclosed (Listed Expression) (list_text expr_text) (prints
 prints_columns : Prints (Maybe (Enclosed (Listed Name))) columns_text
 prints_columns = turns_maybe (Enclosed (Listed Name)) columns_text refl (λ x. refl) (prints_enclosed (Listed Name) (list_text name_text) (prints_listed Name name_text prints_name))
 
-prints_insert : Prints (After (Mark mark.Insert) InsertTail) printed
+prints_insert : Prints (After (Symbol symbol.Insert) InsertTail) printed
 prints_insert =
-    turns_led (Mark mark.Insert) (λ p. stmt.Insert p.0 p.1.0 p.1.1) printed refl
-    (turns_after (Mark mark.Into) (Then Name (Then (Maybe (Enclosed (Listed Name))) (After (Mark mark.Values) (Listed Tuple)))) refl
-    (prints_then prints_name (prints_then prints_columns (turns_after (Mark mark.Values) (Listed Tuple) refl (prints_listed Tuple tuple_text prints_tuple))))) (λ x. refl)
+    turns_led (Symbol symbol.Insert) (λ p. stmt.Insert p.0 p.1.0 p.1.1) printed refl
+    (turns_after (Symbol symbol.Into) (Then Name (Then (Maybe (Enclosed (Listed Name))) (After (Symbol symbol.Values) (Listed Tuple)))) refl
+    (prints_then prints_name (prints_then prints_columns (turns_after (Symbol symbol.Values) (Listed Tuple) refl (prints_listed Tuple tuple_text prints_tuple))))) (λ x. refl)
 
 prints_filter : Prints Filter filter_text
-prints_filter = turns_maybe (After (Mark mark.Where) Expression) filter_text refl (λ x. refl) (turns_after (Mark mark.Where) Expression refl prints_expression)
+prints_filter = turns_maybe (After (Symbol symbol.Where) Expression) filter_text refl (λ x. refl) (turns_after (Symbol symbol.Where) Expression refl prints_expression)
 
 prints_assigned : Prints Assigned assigned_text
-prints_assigned = prints_then prints_name (turns_after (Mark mark.Equal) Expression refl prints_expression)
+prints_assigned = prints_then prints_name (turns_after (Symbol symbol.Equal) Expression refl prints_expression)
 
-prints_update : Prints (After (Mark mark.Update) UpdateTail) printed
+prints_update : Prints (After (Symbol symbol.Update) UpdateTail) printed
 prints_update =
-    turns_led (Mark mark.Update) (λ p. stmt.Update p.0 p.1.0 p.1.1) printed refl
-    (prints_then prints_name (turns_after (Mark mark.Set) (Then (Listed Assigned) Filter) refl (prints_then (prints_listed Assigned assigned_text prints_assigned) prints_filter))) (λ x. refl)
+    turns_led (Symbol symbol.Update) (λ p. stmt.Update p.0 p.1.0 p.1.1) printed refl
+    (prints_then prints_name (turns_after (Symbol symbol.Set) (Then (Listed Assigned) Filter) refl (prints_then (prints_listed Assigned assigned_text prints_assigned) prints_filter))) (λ x. refl)
 
-prints_delete : Prints (After (Mark mark.Delete) DeleteTail) printed
+prints_delete : Prints (After (Symbol symbol.Delete) DeleteTail) printed
 prints_delete =
-    turns_led (Mark mark.Delete) (λ p. stmt.Delete p.0 p.1) printed refl
-    (turns_after (Mark mark.From) (Then Name Filter) refl (prints_then prints_name prints_filter)) (λ x. refl)
+    turns_led (Symbol symbol.Delete) (λ p. stmt.Delete p.0 p.1) printed refl
+    (turns_after (Symbol symbol.From) (Then Name Filter) refl (prints_then prints_name prints_filter)) (λ x. refl)
 
 -- ---- SELECT
 
-prints_item_alias : Prints (Maybe (After (Mark mark.As) Name)) alias_text
-prints_item_alias = turns_maybe (After (Mark mark.As) Name) alias_text refl (λ x. refl) (turns_after (Mark mark.As) Name refl prints_name)
+prints_item_alias : Prints (Maybe (After (Symbol symbol.As) Name)) alias_text
+prints_item_alias = turns_maybe (After (Symbol symbol.As) Name) alias_text refl (λ x. refl) (turns_after (Symbol symbol.As) Name refl prints_name)
 
 prints_item : Prints ItemText item_text
 prints_item = turns_as item_of item_text (λ x. refl) (prints_then prints_expression prints_item_alias)
@@ -284,11 +284,11 @@ prints_some_items = turns_as Some items_text (λ x. refl) (prints_listed ItemTex
 
 prints_items : Prints Items items_text
 prints_items =
-    turns_or (turns_to (After (Mark mark.Star) (Just None)) items_text None (token_only (Mark mark.Star) None) (again_left _ (the_token (Mark mark.Star) None refl)))
+    turns_or (turns_to (After (Symbol symbol.Star) (Just None)) items_text None (token_only (Symbol symbol.Star) None) (again_left _ (the_token (Symbol symbol.Star) None refl)))
     (λ x ws says proper. again_right _ (prints_some_items x ws says proper))
 
 alias_again : (n : List ℕ) → Again Name n (name_text n) → Again Alias (Some n) (alias_text (Some n))
-alias_again n h = again_left (Maybe Name) (again_after (Mark mark.As) refl (again_as Some h))
+alias_again n h = again_left (Maybe Name) (again_after (Symbol symbol.As) refl (again_as Some h))
 
 -- an alias is printed with AS
 prints_alias : Prints Alias alias_text
@@ -369,16 +369,16 @@ joins_again : (ss : List TableRef) (cs : List Expr) → AreAll SourceOk ss → A
 joins_again [] cs h k = again_empty Joined
 joins_again (s ∷ ss) [] h k = again_empty Joined
 joins_again (s ∷ ss) (c ∷ cs) h k =
-    let one : Again Joined (s, Some c) (ink.Mark mark.Join ∷ (source_text s ++ ink.Mark mark.On ∷ expr_text c)) =
-    again_right _ (again_left _ (again_after (Mark mark.Join) refl (again_as (λ p. (p.0, Some p.1)) (again_then h.0 (again_after (Mark mark.On) refl k.0))))) in
+    let one : Again Joined (s, Some c) (print_token.Symbol symbol.Join ∷ (source_text s ++ print_token.Symbol symbol.On ∷ expr_text c)) =
+    again_right _ (again_left _ (again_after (Symbol symbol.Join) refl (again_as (λ p. (p.0, Some p.1)) (again_then h.0 (again_after (Symbol symbol.On) refl k.0))))) in
     let all = again_cons one (joins_again ss cs h.1 k.1) in
-    subst (λ (a : List Ink). Again (Many Joined) ((s, Some c) ∷ paired ss cs) (ink.Mark mark.Join ∷ a)) (append_assoc (source_text s) (ink.Mark mark.On ∷ expr_text c) (joins_text ss cs)) all
+    subst (λ (a : List PrintToken). Again (Many Joined) ((s, Some c) ∷ paired ss cs) (print_token.Symbol symbol.Join ∷ a)) (append_assoc (source_text s) (print_token.Symbol symbol.On ∷ expr_text c) (joins_text ss cs)) all
 
 following_again : (n : ℕ) (ss : List TableRef) (cs : List Expr) → AreAll SourceOk ss → AreAll ConditionOk cs → Again (Many Joined) (assembled n ss cs) (following_text n ss cs)
 following_again zero ss cs h k = joins_again ss cs h k
 following_again (suc n) [] cs h k = again_empty Joined
 following_again (suc n) (s ∷ ss) cs h k =
-    let one : Again Joined (s, None) (ink.Mark mark.Comma ∷ source_text s) = again_left _ (again_after (Mark mark.Comma) refl (again_as (λ s. (s, None)) h.0)) in
+    let one : Again Joined (s, None) (print_token.Symbol symbol.Comma ∷ source_text s) = again_left _ (again_after (Symbol symbol.Comma) refl (again_as (λ s. (s, None)) h.0)) in
     again_cons one (following_again n ss cs h.1 k)
 
 paired_are : (ss : List TableRef) (cs : List Expr) → length cs ≡ length ss → (sources_of (paired ss cs) ≡ ss) × (conditions_of (paired ss cs) ≡ cs)
@@ -392,53 +392,53 @@ assembled_are zero ss cs e = paired_are ss cs (omega arith)
 assembled_are (suc n) [] cs e = absurd (omega arith)
 assembled_are (suc n) (s ∷ ss) cs e = let r = assembled_are n ss cs (omega arith) in (ap (λ (x : List TableRef). s ∷ x) r.0, r.1)
 
-ref_again : (x : List ℕ × Option (List ℕ)) (ws : List Terminal) → Then Name (Maybe (After (Mark mark.Dot) Name)) x ws → AreProper ws → Again RefText (ref_of x) (ref_text (ref_of x))
+ref_again : (x : List ℕ × Option (List ℕ)) (ws : List Terminal) → Then Name (Maybe (After (Symbol symbol.Dot) Name)) x ws → AreProper ws → Again RefText (ref_of x) (ref_text (ref_of x))
 ref_again (n, None) ws says proper =
     let r = proper_parts says.0 says.1 (subst AreProper says.2 proper) in
-    again_as ref_of (again_then (prints_name n says.0 says.3 r.0) (again_none (After (Mark mark.Dot) Name)))
+    again_as ref_of (again_then (prints_name n says.0 says.3 r.0) (again_none (After (Symbol symbol.Dot) Name)))
 ref_again (n, Some m) ws says proper =
     let r = proper_parts says.0 says.1 (subst AreProper says.2 proper) in
     let a = prints_name n says.0 says.3 r.0 in
     let b = prints_name m says.4.0 says.4.2 (subst AreProper says.4.1 r.1).1 in
-    record { says = ((n, Some m), refl, (inked (name_text n), terminal.Fixed mark.Dot ∷ inked (name_text m), refl, a.says, (inked (name_text m), refl, b.says))); proper = (a.proper.0, (tt, b.proper)); dotted = ((λ d. absurd cc), ((λ d. refl), ((λ d. absurd cc), tt))) }
+    record { says = ((n, Some m), refl, (print_terminals (name_text n), terminal.Fixed symbol.Dot ∷ print_terminals (name_text m), refl, a.says, (print_terminals (name_text m), refl, b.says))); proper = (a.proper.0, (tt, b.proper)); dotted = ((λ d. absurd cc), ((λ d. refl), ((λ d. absurd cc), tt))) }
 
 prints_ref : Prints RefText ref_text
 prints_ref r ws says proper = subst (λ r. Again RefText r (ref_text r)) says.1 (ref_again says.0 ws says.2 proper)
 
 -- behind GROUP BY stands one name at least
-group_full : (rs : List Ref) (ws : List Terminal) → Listed RefText rs ws → ink.Mark mark.Group ∷ ink.Mark mark.By ∷ list_text ref_text rs ≡ group_text rs
-group_full rs ws says = subst (λ (zs : List Ref). ink.Mark mark.Group ∷ ink.Mark mark.By ∷ list_text ref_text zs ≡ group_text zs) says.1 refl
+group_full : (rs : List Ref) (ws : List Terminal) → Listed RefText rs ws → print_token.Symbol symbol.Group ∷ print_token.Symbol symbol.By ∷ list_text ref_text rs ≡ group_text rs
+group_full rs ws says = subst (λ (zs : List Ref). print_token.Symbol symbol.Group ∷ print_token.Symbol symbol.By ∷ list_text ref_text zs ≡ group_text zs) says.1 refl
 
-group_again : (o : Option (List Ref)) (ws : List Terminal) → Maybe (After (Mark mark.Group) (After (Mark mark.By) (Listed RefText))) o ws → AreProper ws → Again Group (some_or_none o) (group_text (some_or_none o))
-group_again None ws says proper = again_as some_or_none (again_none (After (Mark mark.Group) (After (Mark mark.By) (Listed RefText))))
+group_again : (o : Option (List Ref)) (ws : List Terminal) → Maybe (After (Symbol symbol.Group) (After (Symbol symbol.By) (Listed RefText))) o ws → AreProper ws → Again Group (some_or_none o) (group_text (some_or_none o))
+group_again None ws says proper = again_as some_or_none (again_none (After (Symbol symbol.Group) (After (Symbol symbol.By) (Listed RefText))))
 group_again (Some rs) ws says proper =
     let a = (subst AreProper says.1 proper).1 in
     let b = (subst AreProper says.2.1 a).1 in
     let list = prints_listed RefText ref_text prints_ref rs says.2.0 says.2.2 b in
-    subst (λ (t : List Ink). Again Group rs t) (group_full rs says.2.0 says.2.2) (again_as some_or_none (again_some (again_after (Mark mark.Group) refl (again_after (Mark mark.By) refl list))))
+    subst (λ (t : List PrintToken). Again Group rs t) (group_full rs says.2.0 says.2.2) (again_as some_or_none (again_some (again_after (Symbol symbol.Group) refl (again_after (Symbol symbol.By) refl list))))
 
 prints_group : Prints Group group_text
 prints_group rs ws says proper = subst (λ rs. Again Group rs (group_text rs)) says.1 (group_again says.0 ws says.2 proper)
 
 prints_direction : Prints Direction direction_text
 prints_direction =
-    turns_or (turns_to (After (Mark mark.Asc) (Just false)) direction_text false (token_only (Mark mark.Asc) false) (again_right _ (again_right _ (again_just false))))
-    (turns_or (turns_to (After (Mark mark.Desc) (Just true)) direction_text true (token_only (Mark mark.Desc) true) (again_right _ (again_left _ (the_token (Mark mark.Desc) true refl))))
+    turns_or (turns_to (After (Symbol symbol.Asc) (Just false)) direction_text false (token_only (Symbol symbol.Asc) false) (again_right _ (again_right _ (again_just false))))
+    (turns_or (turns_to (After (Symbol symbol.Desc) (Just true)) direction_text true (token_only (Symbol symbol.Desc) true) (again_right _ (again_left _ (the_token (Symbol symbol.Desc) true refl))))
     (turns_to (Just false) direction_text false (λ x ws says. says.0) (again_right _ (again_right _ (again_just false)))))
 
 prints_key : Prints KeyText key_text
 prints_key = turns_as key_with key_text (λ x. refl) (prints_then (prints_one key_of key_by_text key_is) prints_direction)
 
-order_full : (ks : List Key) (ws : List Terminal) → Listed KeyText ks ws → ink.Mark mark.Order ∷ ink.Mark mark.By ∷ list_text key_text ks ≡ order_text ks
-order_full ks ws says = subst (λ (zs : List Key). ink.Mark mark.Order ∷ ink.Mark mark.By ∷ list_text key_text zs ≡ order_text zs) says.1 refl
+order_full : (ks : List Key) (ws : List Terminal) → Listed KeyText ks ws → print_token.Symbol symbol.Order ∷ print_token.Symbol symbol.By ∷ list_text key_text ks ≡ order_text ks
+order_full ks ws says = subst (λ (zs : List Key). print_token.Symbol symbol.Order ∷ print_token.Symbol symbol.By ∷ list_text key_text zs ≡ order_text zs) says.1 refl
 
-order_again : (o : Option (List Key)) (ws : List Terminal) → Maybe (After (Mark mark.Order) (After (Mark mark.By) (Listed KeyText))) o ws → AreProper ws → Again Order (some_or_none o) (order_text (some_or_none o))
-order_again None ws says proper = again_as some_or_none (again_none (After (Mark mark.Order) (After (Mark mark.By) (Listed KeyText))))
+order_again : (o : Option (List Key)) (ws : List Terminal) → Maybe (After (Symbol symbol.Order) (After (Symbol symbol.By) (Listed KeyText))) o ws → AreProper ws → Again Order (some_or_none o) (order_text (some_or_none o))
+order_again None ws says proper = again_as some_or_none (again_none (After (Symbol symbol.Order) (After (Symbol symbol.By) (Listed KeyText))))
 order_again (Some ks) ws says proper =
     let a = (subst AreProper says.1 proper).1 in
     let b = (subst AreProper says.2.1 a).1 in
     let list = prints_listed KeyText key_text prints_key ks says.2.0 says.2.2 b in
-    subst (λ (t : List Ink). Again Order ks t) (order_full ks says.2.0 says.2.2) (again_as some_or_none (again_some (again_after (Mark mark.Order) refl (again_after (Mark mark.By) refl list))))
+    subst (λ (t : List PrintToken). Again Order ks t) (order_full ks says.2.0 says.2.2) (again_as some_or_none (again_some (again_after (Symbol symbol.Order) refl (again_after (Symbol symbol.By) refl list))))
 
 prints_order : Prints Order order_text
 prints_order ks ws says proper = subst (λ ks. Again Order ks (order_text ks)) says.1 (order_again says.0 ws says.2 proper)
@@ -455,7 +455,7 @@ sources_again x ws says proper =
     let same = assembled_are n ss cs (omega (arith, conditions_few x.1)) in
     (assembled n ss cs, same.0, same.1, again_then first (following_again n ss cs ok.0 ok.1))
 
-prints_select : Prints (After (Mark mark.Select) SelectTail) printed
+prints_select : Prints (After (Symbol symbol.Select) SelectTail) printed
 prints_select y ws says proper =
     let inner = says.2 in
     let x = inner.0 in
@@ -471,19 +471,19 @@ prints_select y ws says proper =
     let ended = prints_then prints_filter (prints_then prints_group prints_order) x.1.1 from.2.1 rest b.1 in
     let z : Option (List Item) × ((TableRef × List Following) × (Option Expr × (List Ref × List Key))) = (x.0, ((x.1.0.0, sources.0), x.1.1)) in
     let same : select_of z ≡ select_of x = (λ i. stmt.Select (record { items = x.0; from = x.1.0.0 ∷ sources.1 i; conditions = sources.2 i; filter = x.1.1.0; group = x.1.1.1.0; order = x.1.1.1.1 })) in
-    let made = again_after (Mark mark.Select) {L = SelectTail} refl (again_as select_of (again_then items (again_after (Mark mark.From) refl (again_then sources.3 ended)))) in
-    subst (λ s. Again (After (Mark mark.Select) SelectTail) s (printed s)) inner.1 (subst (λ s. Again (After (Mark mark.Select) SelectTail) s (printed (select_of x))) same made)
+    let made = again_after (Symbol symbol.Select) {L = SelectTail} refl (again_as select_of (again_then items (again_after (Symbol symbol.From) refl (again_then sources.3 ended)))) in
+    subst (λ s. Again (After (Symbol symbol.Select) SelectTail) s (printed s)) inner.1 (subst (λ s. Again (After (Symbol symbol.Select) SelectTail) s (printed (select_of x))) same made)
 
 -- ---- all of them
 
-the_begin : Prints (After (Mark mark.Begin) (Just stmt.Begin)) printed
-the_begin = turns_to (After (Mark mark.Begin) (Just stmt.Begin)) printed stmt.Begin (token_only (Mark mark.Begin) stmt.Begin) (the_token (Mark mark.Begin) stmt.Begin refl)
+the_begin : Prints (After (Symbol symbol.Begin) (Just stmt.Begin)) printed
+the_begin = turns_to (After (Symbol symbol.Begin) (Just stmt.Begin)) printed stmt.Begin (token_only (Symbol symbol.Begin) stmt.Begin) (the_token (Symbol symbol.Begin) stmt.Begin refl)
 
-the_commit : Prints (After (Mark mark.Commit) (Just stmt.Commit)) printed
-the_commit = turns_to (After (Mark mark.Commit) (Just stmt.Commit)) printed stmt.Commit (token_only (Mark mark.Commit) stmt.Commit) (the_token (Mark mark.Commit) stmt.Commit refl)
+the_commit : Prints (After (Symbol symbol.Commit) (Just stmt.Commit)) printed
+the_commit = turns_to (After (Symbol symbol.Commit) (Just stmt.Commit)) printed stmt.Commit (token_only (Symbol symbol.Commit) stmt.Commit) (the_token (Symbol symbol.Commit) stmt.Commit refl)
 
-the_rollback : Prints (After (Mark mark.Rollback) (Just stmt.Rollback)) printed
-the_rollback = turns_to (After (Mark mark.Rollback) (Just stmt.Rollback)) printed stmt.Rollback (token_only (Mark mark.Rollback) stmt.Rollback) (the_token (Mark mark.Rollback) stmt.Rollback refl)
+the_rollback : Prints (After (Symbol symbol.Rollback) (Just stmt.Rollback)) printed
+the_rollback = turns_to (After (Symbol symbol.Rollback) (Just stmt.Rollback)) printed stmt.Rollback (token_only (Symbol symbol.Rollback) stmt.Rollback) (the_token (Symbol symbol.Rollback) stmt.Rollback refl)
 
 prints_sentence : Prints Sentence printed
 prints_sentence =
@@ -502,5 +502,5 @@ prints_statement s ws says proper =
     let x = says.0 in
     let parts = says.2 in
     let r = proper_parts parts.0 parts.1 (subst AreProper parts.2 proper) in
-    let made = again_as (λ p. p.0) (again_then (prints_sentence x.0 parts.0 parts.3 r.0) (again_none (After (Mark mark.Semicolon) (Just {A = Unit {0}} tt)))) in
-    subst (λ s. Again Statement s (printed s)) says.1 (subst (λ (a : List Ink). Again Statement x.0 a) (append-nil (printed x.0)) made)
+    let made = again_as (λ p. p.0) (again_then (prints_sentence x.0 parts.0 parts.3 r.0) (again_none (After (Symbol symbol.Semicolon) (Just {A = Unit {0}} tt)))) in
+    subst (λ s. Again Statement s (printed s)) says.1 (subst (λ (a : List PrintToken). Again Statement x.0 a) (append-nil (printed x.0)) made)

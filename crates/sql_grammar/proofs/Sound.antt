@@ -8,8 +8,8 @@ use Rattle.dl_base.specs.declared.statement.Op.TheVariants.{Sub, Mul}
 use Rattle.dl_base.specs.declared.statement.Expr.{Expr}
 use Rattle.dl_base.specs.declared.statement.Expr as e
 use Rattle.dl_base.specs.Name.{name_test}
-use Rattle.sql_grammar.specs.declared.mark.Mark.{Mark}
-use Rattle.sql_grammar.specs.declared.mark.Mark.TheVariants as mark
+use Rattle.sql_grammar.specs.declared.symbol.Symbol.{Symbol}
+use Rattle.sql_grammar.specs.declared.symbol.Symbol.TheVariants as symbol
 use Rattle.sql_grammar.specs.declared.terminal.Terminal.{Terminal}
 use Rattle.sql_grammar.specs.declared.terminal.Terminal.TheVariants.{Fixed, Word, Number, Literal}
 use Rattle.sql_grammar.specs.declared.frame.Opening.{Opening}
@@ -19,11 +19,13 @@ use Rattle.sql_grammar.specs.declared.frame.Callee.TheVariants.{Count, Opens}
 use Rattle.sql_grammar.specs.declared.frame.Frame.{Frame}
 use Rattle.sql_grammar.specs.declared.frame.Frame.TheVariants.{Opened, Negation, Sign, Infix}
 use Rattle.sql_grammar.specs.Levels.{level_of, left_of}
-use Rattle.sql_grammar.specs.Cues.{Cue, mark_of, an_operator, a_not, an_is, a_null, an_open, a_close, a_comma, a_dot, a_number, a_literal, a_word, another, cue_of, cue}
+use Rattle.sql_grammar.specs.Cues.{Cue, an_operator, a_not, an_is, a_null, an_open, a_close, a_comma, a_dot, a_number, a_literal, a_word, another, cue_of, cue}
+use Rattle.sql_grammar.specs.Levels.{symbol_of}
 use Rattle.sql_grammar.specs.Words as words
 use Rattle.sql_grammar.specs.Forms.{Form, number, literal, column, null, count_all, fold_name, part_name, reference, level, IsForm, text, tree, operators, depth, Derives}
-use Rattle.sql_grammar.specs.Machine.{need, reduced, enclosed, same_bytes, callees, look_up, callee_of, State, due, after, named, dotted, is_due, not_due, star_due, star_read, Move, Go, Stop, Refuse, operate, ask, closed, close, passed, pass, leave, call_open, move_after, move, told, run}
-use Rattle.sql_grammar.specs.Proper.{AreProper, reserved_mark}
+use Rattle.sql_grammar.specs.Machine.{need, reduced, enclosed, callees, look_up, callee_of, State, due, after, named, dotted, is_due, not_due, star_due, star_read, Move, Go, Stop, Refuse, operate, ask, closed, close, passed, pass, leave, call_open, move_after, move, told, run}
+use Rattle.sql_grammar.specs.Words.{same_bytes}
+use Rattle.sql_grammar.specs.Proper.{AreProper, reserved_symbol}
 use Rattle.sql_grammar.proofs.Place.{Place}
 use Rattle.sql_grammar.proofs.Written.{Written, Begun, Stands, Has, Has-not, Has-minus, Has-infix, Has-close, Has-null, Has-down, has_reduced, needs}
 
@@ -55,8 +57,8 @@ closes [] t l ws n p few h =
 closes (Opened g ∷ s) t l ws n p few h =
     let q = h.below.4 in
     let one : p ≡ suc q = h.below.9 in
-    let r = closes s (enclosed g t) 7 (ws ++ Fixed mark.Close ∷ []) n q few (Has-close g s t l ws n q (subst (λ x. Has (Opened g ∷ s) t l ws n x) one h)) in
-    (Fixed mark.Close ∷ r.0, r.1, subst (λ (x : List Terminal). Derives x r.1) (append_assoc ws (Fixed mark.Close ∷ []) r.0) r.2, (tt, r.3))
+    let r = closes s (enclosed g t) 7 (ws ++ Fixed symbol.Close ∷ []) n q few (Has-close g s t l ws n q (subst (λ x. Has (Opened g ∷ s) t l ws n x) one h)) in
+    (Fixed symbol.Close ∷ r.0, r.1, subst (λ (x : List Terminal). Derives x r.1) (append_assoc ws (Fixed symbol.Close ∷ []) r.0) r.2, (tt, r.3))
 closes (Negation ∷ s) t l ws n p few h = closes s (e.Not t) 0 ws n p few (Has-not s t l 0 ws n p (omega arith) h)
 closes (Sign ∷ s) t l ws n p few h = closes s (e.Minus t) 0 ws n p few (Has-minus s t l 0 ws n p (omega arith) h)
 closes (Infix o a ∷ s) t l ws n p few h = closes s (e.Binary o a t) 0 ws n p few (Has-infix o a s t l 0 ws n p (omega arith) h)
@@ -66,11 +68,11 @@ abbrev pub Holds : State → List Terminal → Type 0
 Holds (due s n p) ws = Stands s ws n p × (n ≤ 255) × (p ≤ 256)
 Holds (after s t l n p) ws = Has s t l ws n p × (n ≤ 255) × (p ≤ 256)
 Holds (named s x n p) ws = (pre : List Terminal) × Stands s pre n p × (ws ≡ pre ++ Word x ∷ []) × (n ≤ 255) × (p ≤ 256)
-Holds (dotted s x n p) ws = (pre : List Terminal) × Stands s pre n p × (ws ≡ pre ++ Word x ∷ Fixed mark.Dot ∷ []) × (n ≤ 255) × (p ≤ 256)
-Holds (is_due s t n p) ws = (pre : List Terminal) × (m : ℕ) × Has s t 4 pre m p × (need s ≤ 3) × (ws ≡ pre ++ Fixed mark.Is ∷ []) × (n ≡ suc m) × (n ≤ 255) × (p ≤ 256)
-Holds (not_due s t n p) ws = (pre : List Terminal) × (m : ℕ) × Has s t 4 pre m p × (need s ≤ 3) × (ws ≡ pre ++ Fixed mark.Is ∷ Fixed mark.Not ∷ []) × (n ≡ suc m) × (n ≤ 255) × (p ≤ 256)
-Holds (star_due s n p) ws = (pre : List Terminal) × (m : ℕ) × Stands s pre m p × (ws ≡ pre ++ Word words.count ∷ Fixed mark.Open ∷ []) × (n ≡ suc m) × (n ≤ 255) × (p < 256)
-Holds (star_read s n p) ws = (pre : List Terminal) × (m : ℕ) × Stands s pre m p × (ws ≡ pre ++ Word words.count ∷ Fixed mark.Open ∷ Fixed mark.Star ∷ []) × (n ≡ suc m) × (n ≤ 255) × (p < 256)
+Holds (dotted s x n p) ws = (pre : List Terminal) × Stands s pre n p × (ws ≡ pre ++ Word x ∷ Fixed symbol.Dot ∷ []) × (n ≤ 255) × (p ≤ 256)
+Holds (is_due s t n p) ws = (pre : List Terminal) × (m : ℕ) × Has s t 4 pre m p × (need s ≤ 3) × (ws ≡ pre ++ Fixed symbol.Is ∷ []) × (n ≡ suc m) × (n ≤ 255) × (p ≤ 256)
+Holds (not_due s t n p) ws = (pre : List Terminal) × (m : ℕ) × Has s t 4 pre m p × (need s ≤ 3) × (ws ≡ pre ++ Fixed symbol.Is ∷ Fixed symbol.Not ∷ []) × (n ≡ suc m) × (n ≤ 255) × (p ≤ 256)
+Holds (star_due s n p) ws = (pre : List Terminal) × (m : ℕ) × Stands s pre m p × (ws ≡ pre ++ Word words.count ∷ Fixed symbol.Open ∷ []) × (n ≡ suc m) × (n ≤ 255) × (p < 256)
+Holds (star_read s n p) ws = (pre : List Terminal) × (m : ℕ) × Stands s pre m p × (ws ≡ pre ++ Word words.count ∷ Fixed symbol.Open ∷ Fixed symbol.Star ∷ []) × (n ≡ suc m) × (n ≤ 255) × (p < 256)
 
 -- an operand without operators inside it
 placed : (s : List Frame) (f : Form) (here ws : List Terminal) (n k p : ℕ) → IsForm f → text f ≡ here → 7 ≤ level f → operators f ≡ k → p + depth f ≤ 256 → Stands s ws n p → Has s (tree f) 7 (ws ++ here) (n + k) p
@@ -88,32 +90,32 @@ as_column s x n p ws h = subst (λ (y : List Terminal). Holds (after s (e.Column
 -- a column of a table
 as_reference : (s : List Frame) (x y : List ℕ) (n p : ℕ) (ws : List Terminal) → Holds (dotted s x n p) ws → Holds (after s (e.Column (reference (Some x) y)) 7 n p) (ws ++ Word y ∷ [])
 as_reference s x y n p ws h =
-    let all : ws ++ Word y ∷ [] ≡ h.0 ++ Word x ∷ Fixed mark.Dot ∷ Word y ∷ [] = ap (λ (z : List Terminal). z ++ Word y ∷ []) h.2 ∙ append_assoc h.0 (Word x ∷ Fixed mark.Dot ∷ []) (Word y ∷ []) in
-    subst (λ (z : List Terminal). Holds (after s (e.Column (reference (Some x) y)) 7 n p) z) (sym all) (simple s (column (Some x) y) (Word x ∷ Fixed mark.Dot ∷ Word y ∷ []) h.0 n p tt refl (omega arith) refl refl (h.1, h.3, h.4))
+    let all : ws ++ Word y ∷ [] ≡ h.0 ++ Word x ∷ Fixed symbol.Dot ∷ Word y ∷ [] = ap (λ (z : List Terminal). z ++ Word y ∷ []) h.2 ∙ append_assoc h.0 (Word x ∷ Fixed symbol.Dot ∷ []) (Word y ∷ []) in
+    subst (λ (z : List Terminal). Holds (after s (e.Column (reference (Some x) y)) 7 n p) z) (sym all) (simple s (column (Some x) y) (Word x ∷ Fixed symbol.Dot ∷ Word y ∷ []) h.0 n p tt refl (omega arith) refl refl (h.1, h.3, h.4))
 
 -- COUNT(*)
-counted : (s : List Frame) (n p : ℕ) (ws : List Terminal) → Holds (star_read s n p) ws → Holds (after s e.CountAll 7 n p) (ws ++ Fixed mark.Close ∷ [])
+counted : (s : List Frame) (n p : ℕ) (ws : List Terminal) → Holds (star_read s n p) ws → Holds (after s e.CountAll 7 n p) (ws ++ Fixed symbol.Close ∷ [])
 counted s n p ws h =
-    let all : ws ++ Fixed mark.Close ∷ [] ≡ h.0 ++ text count_all = ap (λ (z : List Terminal). z ++ Fixed mark.Close ∷ []) h.3 ∙ append_assoc h.0 (Word words.count ∷ Fixed mark.Open ∷ Fixed mark.Star ∷ []) (Fixed mark.Close ∷ []) in
+    let all : ws ++ Fixed symbol.Close ∷ [] ≡ h.0 ++ text count_all = ap (λ (z : List Terminal). z ++ Fixed symbol.Close ∷ []) h.3 ∙ append_assoc h.0 (Word words.count ∷ Fixed symbol.Open ∷ Fixed symbol.Star ∷ []) (Fixed symbol.Close ∷ []) in
     let made = placed s count_all (text count_all) h.0 h.1 1 p tt refl (omega arith) refl (omega (arith, h.6)) h.2 in
     let total : h.1 + 1 ≡ n = omega (arith, h.4) in
     (subst (λ (z : List Terminal). Has s e.CountAll 7 z n p) (sym all) (subst (λ k. Has s e.CountAll 7 (h.0 ++ text count_all) k p) total made), h.5, omega (arith, h.6))
 
 -- the answer behind IS
-answered : (s : List Frame) (t : Expr) (n p : ℕ) (ws : List Terminal) → Holds (is_due s t n p) ws → Holds (after s (e.IsNull t true) 3 n p) (ws ++ Fixed mark.Null ∷ [])
+answered : (s : List Frame) (t : Expr) (n p : ℕ) (ws : List Terminal) → Holds (is_due s t n p) ws → Holds (after s (e.IsNull t true) 3 n p) (ws ++ Fixed symbol.Null ∷ [])
 answered s t n p ws h =
-    let all : ws ++ Fixed mark.Null ∷ [] ≡ h.0 ++ Fixed mark.Is ∷ Fixed mark.Null ∷ [] = ap (λ (x : List Terminal). x ++ Fixed mark.Null ∷ []) h.4 ∙ append_assoc h.0 (Fixed mark.Is ∷ []) (Fixed mark.Null ∷ []) in
-    (subst (λ (x : List Terminal). Has s (e.IsNull t true) 3 x n p) (sym all) (subst (λ k. Has s (e.IsNull t true) 3 (h.0 ++ Fixed mark.Is ∷ Fixed mark.Null ∷ []) k p) (sym h.5) (Has-null true s t h.0 h.1 p h.3 h.2)), h.6, h.7)
+    let all : ws ++ Fixed symbol.Null ∷ [] ≡ h.0 ++ Fixed symbol.Is ∷ Fixed symbol.Null ∷ [] = ap (λ (x : List Terminal). x ++ Fixed symbol.Null ∷ []) h.4 ∙ append_assoc h.0 (Fixed symbol.Is ∷ []) (Fixed symbol.Null ∷ []) in
+    (subst (λ (x : List Terminal). Has s (e.IsNull t true) 3 x n p) (sym all) (subst (λ k. Has s (e.IsNull t true) 3 (h.0 ++ Fixed symbol.Is ∷ Fixed symbol.Null ∷ []) k p) (sym h.5) (Has-null true s t h.0 h.1 p h.3 h.2)), h.6, h.7)
 
-answered_not : (s : List Frame) (t : Expr) (n p : ℕ) (ws : List Terminal) → Holds (not_due s t n p) ws → Holds (after s (e.IsNull t false) 3 n p) (ws ++ Fixed mark.Null ∷ [])
+answered_not : (s : List Frame) (t : Expr) (n p : ℕ) (ws : List Terminal) → Holds (not_due s t n p) ws → Holds (after s (e.IsNull t false) 3 n p) (ws ++ Fixed symbol.Null ∷ [])
 answered_not s t n p ws h =
-    let all : ws ++ Fixed mark.Null ∷ [] ≡ h.0 ++ Fixed mark.Is ∷ Fixed mark.Not ∷ Fixed mark.Null ∷ [] = ap (λ (x : List Terminal). x ++ Fixed mark.Null ∷ []) h.4 ∙ append_assoc h.0 (Fixed mark.Is ∷ Fixed mark.Not ∷ []) (Fixed mark.Null ∷ []) in
-    (subst (λ (x : List Terminal). Has s (e.IsNull t false) 3 x n p) (sym all) (subst (λ k. Has s (e.IsNull t false) 3 (h.0 ++ Fixed mark.Is ∷ Fixed mark.Not ∷ Fixed mark.Null ∷ []) k p) (sym h.5) (Has-null false s t h.0 h.1 p h.3 h.2)), h.6, h.7)
+    let all : ws ++ Fixed symbol.Null ∷ [] ≡ h.0 ++ Fixed symbol.Is ∷ Fixed symbol.Not ∷ Fixed symbol.Null ∷ [] = ap (λ (x : List Terminal). x ++ Fixed symbol.Null ∷ []) h.4 ∙ append_assoc h.0 (Fixed symbol.Is ∷ Fixed symbol.Not ∷ []) (Fixed symbol.Null ∷ []) in
+    (subst (λ (x : List Terminal). Has s (e.IsNull t false) 3 x n p) (sym all) (subst (λ k. Has s (e.IsNull t false) 3 (h.0 ++ Fixed symbol.Is ∷ Fixed symbol.Not ∷ Fixed symbol.Null ∷ []) k p) (sym h.5) (Has-null false s t h.0 h.1 p h.3 h.2)), h.6, h.7)
 
 -- a word that a text can have
 
 pub name_proper : AreProper (Word (97 ∷ []) ∷ [])
-unfolding name_test reserved_mark
+unfolding name_test reserved_symbol
 name_proper = (((97 ∷ [], (refl, refl)), refl), tt)
 
 -- with one terminal more
@@ -123,9 +125,9 @@ after_one ws v more u d = subst (λ (x : List Terminal). Derives x u) (append_as
 -- what is read so far begins an expression
 pub completes : (s : State) (ws : List Terminal) → Holds s ws → Completes ws
 completes (due s n p) ws h =
-    let a = simple s null (Fixed mark.Null ∷ []) ws n p tt refl (omega arith) refl refl h in
-    let r = closes s e.Null 7 (ws ++ Fixed mark.Null ∷ []) n p h.1 a.0 in
-    (Fixed mark.Null ∷ r.0, r.1, after_one ws (Fixed mark.Null) r.0 r.1 r.2, (tt, r.3))
+    let a = simple s null (Fixed symbol.Null ∷ []) ws n p tt refl (omega arith) refl refl h in
+    let r = closes s e.Null 7 (ws ++ Fixed symbol.Null ∷ []) n p h.1 a.0 in
+    (Fixed symbol.Null ∷ r.0, r.1, after_one ws (Fixed symbol.Null) r.0 r.1 r.2, (tt, r.3))
 completes (after s t l n p) ws h = closes s t l ws n p h.1 h.0
 completes (named s x n p) ws h = let a = as_column s x n p ws h in closes s (e.Column (reference None x)) 7 ws n p a.1 a.0
 completes (dotted s x n p) ws h =
@@ -134,65 +136,65 @@ completes (dotted s x n p) ws h =
     (Word (97 ∷ []) ∷ r.0, r.1, after_one ws (Word (97 ∷ [])) r.0 r.1 r.2, (name_proper.0, r.3))
 completes (is_due s t n p) ws h =
     let a = answered s t n p ws h in
-    let r = closes s (e.IsNull t true) 3 (ws ++ Fixed mark.Null ∷ []) n p a.1 a.0 in
-    (Fixed mark.Null ∷ r.0, r.1, after_one ws (Fixed mark.Null) r.0 r.1 r.2, (tt, r.3))
+    let r = closes s (e.IsNull t true) 3 (ws ++ Fixed symbol.Null ∷ []) n p a.1 a.0 in
+    (Fixed symbol.Null ∷ r.0, r.1, after_one ws (Fixed symbol.Null) r.0 r.1 r.2, (tt, r.3))
 completes (not_due s t n p) ws h =
     let a = answered_not s t n p ws h in
-    let r = closes s (e.IsNull t false) 3 (ws ++ Fixed mark.Null ∷ []) n p a.1 a.0 in
-    (Fixed mark.Null ∷ r.0, r.1, after_one ws (Fixed mark.Null) r.0 r.1 r.2, (tt, r.3))
+    let r = closes s (e.IsNull t false) 3 (ws ++ Fixed symbol.Null ∷ []) n p a.1 a.0 in
+    (Fixed symbol.Null ∷ r.0, r.1, after_one ws (Fixed symbol.Null) r.0 r.1 r.2, (tt, r.3))
 completes (star_read s n p) ws h =
     let a = counted s n p ws h in
-    let r = closes s e.CountAll 7 (ws ++ Fixed mark.Close ∷ []) n p a.1 a.0 in
-    (Fixed mark.Close ∷ r.0, r.1, after_one ws (Fixed mark.Close) r.0 r.1 r.2, (tt, r.3))
+    let r = closes s e.CountAll 7 (ws ++ Fixed symbol.Close ∷ []) n p a.1 a.0 in
+    (Fixed symbol.Close ∷ r.0, r.1, after_one ws (Fixed symbol.Close) r.0 r.1 r.2, (tt, r.3))
 completes (star_due s n p) ws h =
-    let all : ws ++ Fixed mark.Star ∷ [] ≡ h.0 ++ Word words.count ∷ Fixed mark.Open ∷ Fixed mark.Star ∷ [] = ap (λ (z : List Terminal). z ++ Fixed mark.Star ∷ []) h.3 ∙ append_assoc h.0 (Word words.count ∷ Fixed mark.Open ∷ []) (Fixed mark.Star ∷ []) in
-    let a = counted s n p (ws ++ Fixed mark.Star ∷ []) (h.0, h.1, h.2, all, h.4, h.5, h.6) in
-    let r = closes s e.CountAll 7 ((ws ++ Fixed mark.Star ∷ []) ++ Fixed mark.Close ∷ []) n p a.1 a.0 in
-    (Fixed mark.Star ∷ Fixed mark.Close ∷ r.0, r.1, after_one ws (Fixed mark.Star) (Fixed mark.Close ∷ r.0) r.1 (after_one (ws ++ Fixed mark.Star ∷ []) (Fixed mark.Close) r.0 r.1 r.2), (tt, (tt, r.3)))
+    let all : ws ++ Fixed symbol.Star ∷ [] ≡ h.0 ++ Word words.count ∷ Fixed symbol.Open ∷ Fixed symbol.Star ∷ [] = ap (λ (z : List Terminal). z ++ Fixed symbol.Star ∷ []) h.3 ∙ append_assoc h.0 (Word words.count ∷ Fixed symbol.Open ∷ []) (Fixed symbol.Star ∷ []) in
+    let a = counted s n p (ws ++ Fixed symbol.Star ∷ []) (h.0, h.1, h.2, all, h.4, h.5, h.6) in
+    let r = closes s e.CountAll 7 ((ws ++ Fixed symbol.Star ∷ []) ++ Fixed symbol.Close ∷ []) n p a.1 a.0 in
+    (Fixed symbol.Star ∷ Fixed symbol.Close ∷ r.0, r.1, after_one ws (Fixed symbol.Star) (Fixed symbol.Close ∷ r.0) r.1 (after_one (ws ++ Fixed symbol.Star ∷ []) (Fixed symbol.Close) r.0 r.1 r.2), (tt, (tt, r.3)))
 
 -- ---- one terminal
 
 -- the terminal that a cue came from
 uncue : Cue → Terminal
-uncue (an_operator o) = Fixed (mark_of o)
-uncue a_not = Fixed mark.Not
-uncue an_is = Fixed mark.Is
-uncue a_null = Fixed mark.Null
-uncue an_open = Fixed mark.Open
-uncue a_close = Fixed mark.Close
-uncue a_comma = Fixed mark.Comma
-uncue a_dot = Fixed mark.Dot
+uncue (an_operator o) = Fixed (symbol_of o)
+uncue a_not = Fixed symbol.Not
+uncue an_is = Fixed symbol.Is
+uncue a_null = Fixed symbol.Null
+uncue an_open = Fixed symbol.Open
+uncue a_close = Fixed symbol.Close
+uncue a_comma = Fixed symbol.Comma
+uncue a_dot = Fixed symbol.Dot
 uncue (a_number z) = Number z
 uncue (a_literal t) = Literal t
 uncue (a_word x) = Word x
 uncue (another v) = v
 
-uncue_mark : (m : Mark) → uncue (cue_of m) ≡ Fixed m
+uncue_symbol : (m : Symbol) → uncue (cue_of m) ≡ Fixed m
 unfolding uncue
-uncue_mark mark.Or = refl
-uncue_mark mark.And = refl
-uncue_mark mark.Equal = refl
-uncue_mark mark.Unequal = refl
-uncue_mark mark.Less = refl
-uncue_mark mark.LessEqual = refl
-uncue_mark mark.Greater = refl
-uncue_mark mark.GreaterEqual = refl
-uncue_mark mark.Plus = refl
-uncue_mark mark.Minus = refl
-uncue_mark mark.Star = refl
-uncue_mark mark.Slash = refl
-uncue_mark mark.Not = refl
-uncue_mark mark.Is = refl
-uncue_mark mark.Null = refl
-uncue_mark mark.Open = refl
-uncue_mark mark.Close = refl
-uncue_mark mark.Comma = refl
-uncue_mark mark.Dot = refl
-uncue_mark _ = refl
+uncue_symbol symbol.Or = refl
+uncue_symbol symbol.And = refl
+uncue_symbol symbol.Equal = refl
+uncue_symbol symbol.Unequal = refl
+uncue_symbol symbol.Less = refl
+uncue_symbol symbol.LessEqual = refl
+uncue_symbol symbol.Greater = refl
+uncue_symbol symbol.GreaterEqual = refl
+uncue_symbol symbol.Plus = refl
+uncue_symbol symbol.Minus = refl
+uncue_symbol symbol.Star = refl
+uncue_symbol symbol.Slash = refl
+uncue_symbol symbol.Not = refl
+uncue_symbol symbol.Is = refl
+uncue_symbol symbol.Null = refl
+uncue_symbol symbol.Open = refl
+uncue_symbol symbol.Close = refl
+uncue_symbol symbol.Comma = refl
+uncue_symbol symbol.Dot = refl
+uncue_symbol _ = refl
 
 uncue_cue : (v : Terminal) → uncue (cue v) ≡ v
 unfolding uncue
-uncue_cue (Fixed m) = uncue_mark m
+uncue_cue (Fixed m) = uncue_symbol m
 uncue_cue (Number z) = refl
 uncue_cue (Literal t) = refl
 uncue_cue (Word x) = refl
@@ -219,59 +221,59 @@ leave_kept : (s : List Frame) (t : Expr) (n p : ℕ) (ws : List Terminal) (v : T
 leave_kept s t n zero ws v few h = stops s t n ws few h
 leave_kept s t n (suc p) ws v few h = tt
 
-closed_kept : (s : List Frame) (t : Expr) (n p : ℕ) (ws : List Terminal) → n ≤ 255 → suc p ≤ 256 → Has s t 0 ws n (suc p) → Kept (closed s t n p) ws (Fixed mark.Close)
+closed_kept : (s : List Frame) (t : Expr) (n p : ℕ) (ws : List Terminal) → n ≤ 255 → suc p ≤ 256 → Has s t 0 ws n (suc p) → Kept (closed s t n p) ws (Fixed symbol.Close)
 closed_kept [] t n p ws few flat h = tt
 closed_kept (Opened g ∷ s) t n p ws few flat h = (Has-close g s t 0 ws n p h, few, omega arith)
 closed_kept (Negation ∷ s) t n p ws few flat h = tt
 closed_kept (Sign ∷ s) t n p ws few flat h = tt
 closed_kept (Infix o a ∷ s) t n p ws few flat h = tt
 
-close_kept : (s : List Frame) (t : Expr) (n p : ℕ) (ws : List Terminal) → n ≤ 255 → p ≤ 256 → Has s t 0 ws n p → Kept (close (reduced 0 s t) n p) ws (Fixed mark.Close)
+close_kept : (s : List Frame) (t : Expr) (n p : ℕ) (ws : List Terminal) → n ≤ 255 → p ≤ 256 → Has s t 0 ws n p → Kept (close (reduced 0 s t) n p) ws (Fixed symbol.Close)
 close_kept s t n zero ws few flat h = stops s t n ws few h
 close_kept s t n (suc p) ws few flat h = closed_kept (reduced 0 s t).0 (reduced 0 s t).1 n p ws few flat (has_reduced ws n (suc p) s t 0 h)
 
 -- the next argument of DLVALUE
-passed_kept : (s : List Frame) (t : Expr) (n p : ℕ) (ws : List Terminal) → n ≤ 255 → p ≤ 256 → Has s t 0 ws n p → Kept (passed s t n p) ws (Fixed mark.Comma)
+passed_kept : (s : List Frame) (t : Expr) (n p : ℕ) (ws : List Terminal) → n ≤ 255 → p ≤ 256 → Has s t 0 ws n p → Kept (passed s t n p) ws (Fixed symbol.Comma)
 passed_kept [] t n p ws few flat h = tt
 passed_kept (Opened Group ∷ s) t n p ws few flat h = tt
 passed_kept (Opened (Aggregate g) ∷ s) t n p ws few flat h = tt
 passed_kept (Opened (Access g) ∷ s) t n p ws few flat h = tt
 passed_kept (Opened Dlvalue1 ∷ s) t n p ws few flat h =
     let b = h.below in
-    let here = Word words.dlvalue ∷ Fixed mark.Open ∷ (h.here ++ Fixed mark.Comma ∷ []) in
+    let here = Word words.dlvalue ∷ Fixed symbol.Open ∷ (h.here ++ Fixed symbol.Comma ∷ []) in
     let begun = subst (λ q. Written t 0 h.here h.k q) b.9 h.operand in
-    let all : ws ++ Fixed mark.Comma ∷ [] ≡ b.0 ++ here =
-    ap (λ (x : List Terminal). x ++ Fixed mark.Comma ∷ []) (h.all ∙ ap (λ (x : List Terminal). x ++ h.here) (b.7 ∙ ap (λ (x : List Terminal). b.0 ++ x) b.6.0) ∙ append_assoc b.0 (Word words.dlvalue ∷ Fixed mark.Open ∷ []) h.here) ∙ append_assoc b.0 (Word words.dlvalue ∷ Fixed mark.Open ∷ h.here) (Fixed mark.Comma ∷ []) in
+    let all : ws ++ Fixed symbol.Comma ∷ [] ≡ b.0 ++ here =
+    ap (λ (x : List Terminal). x ++ Fixed symbol.Comma ∷ []) (h.all ∙ ap (λ (x : List Terminal). x ++ h.here) (b.7 ∙ ap (λ (x : List Terminal). b.0 ++ x) b.6.0) ∙ append_assoc b.0 (Word words.dlvalue ∷ Fixed symbol.Open ∷ []) h.here) ∙ append_assoc b.0 (Word words.dlvalue ∷ Fixed symbol.Open ∷ h.here) (Fixed symbol.Comma ∷ []) in
     ((b.0, here, b.2, suc h.k, b.4, b.5, (h.here, h.k, begun, refl, refl), all, omega (arith, h.total, b.8, b.6.1), b.9, b.10), few, flat)
 passed_kept (Opened (Dlvalue2 a) ∷ s) t n p ws few flat h =
     let b = h.below in
     let u = b.6 in
-    let here = Word words.dlvalue ∷ Fixed mark.Open ∷ (u.0 ++ Fixed mark.Comma ∷ (h.here ++ Fixed mark.Comma ∷ [])) in
+    let here = Word words.dlvalue ∷ Fixed symbol.Open ∷ (u.0 ++ Fixed symbol.Comma ∷ (h.here ++ Fixed symbol.Comma ∷ [])) in
     let begun = subst (λ q. Written t 0 h.here h.k q) b.9 h.operand in
-    let parts : b.1 ++ (h.here ++ Fixed mark.Comma ∷ []) ≡ here = ap (λ (x : List Terminal). x ++ (h.here ++ Fixed mark.Comma ∷ [])) u.3 ∙ ap (λ (x : List Terminal). Word words.dlvalue ∷ Fixed mark.Open ∷ x) (append_assoc u.0 (Fixed mark.Comma ∷ []) (h.here ++ Fixed mark.Comma ∷ [])) in
-    let all : ws ++ Fixed mark.Comma ∷ [] ≡ b.0 ++ here =
-    ap (λ (x : List Terminal). x ++ Fixed mark.Comma ∷ []) (h.all ∙ ap (λ (x : List Terminal). x ++ h.here) b.7 ∙ append_assoc b.0 b.1 h.here) ∙ append_assoc b.0 (b.1 ++ h.here) (Fixed mark.Comma ∷ []) ∙ ap (λ (x : List Terminal). b.0 ++ x) (append_assoc b.1 h.here (Fixed mark.Comma ∷ []) ∙ parts) in
+    let parts : b.1 ++ (h.here ++ Fixed symbol.Comma ∷ []) ≡ here = ap (λ (x : List Terminal). x ++ (h.here ++ Fixed symbol.Comma ∷ [])) u.3 ∙ ap (λ (x : List Terminal). Word words.dlvalue ∷ Fixed symbol.Open ∷ x) (append_assoc u.0 (Fixed symbol.Comma ∷ []) (h.here ++ Fixed symbol.Comma ∷ [])) in
+    let all : ws ++ Fixed symbol.Comma ∷ [] ≡ b.0 ++ here =
+    ap (λ (x : List Terminal). x ++ Fixed symbol.Comma ∷ []) (h.all ∙ ap (λ (x : List Terminal). x ++ h.here) b.7 ∙ append_assoc b.0 b.1 h.here) ∙ append_assoc b.0 (b.1 ++ h.here) (Fixed symbol.Comma ∷ []) ∙ ap (λ (x : List Terminal). b.0 ++ x) (append_assoc b.1 h.here (Fixed symbol.Comma ∷ []) ∙ parts) in
     ((b.0, here, b.2, suc (u.1 + h.k), b.4, b.5, (u.0, h.here, u.1, h.k, u.2, begun, refl, refl), all, omega (arith, h.total, b.8, u.4), b.9, b.10), few, flat)
 passed_kept (Opened (Dlvalue3 a c) ∷ s) t n p ws few flat h = tt
 passed_kept (Negation ∷ s) t n p ws few flat h = tt
 passed_kept (Sign ∷ s) t n p ws few flat h = tt
 passed_kept (Infix o a ∷ s) t n p ws few flat h = tt
 
-pass_kept : (s : List Frame) (t : Expr) (n p : ℕ) (ws : List Terminal) → n ≤ 255 → p ≤ 256 → Has s t 0 ws n p → Kept (pass (reduced 0 s t) n p) ws (Fixed mark.Comma)
+pass_kept : (s : List Frame) (t : Expr) (n p : ℕ) (ws : List Terminal) → n ≤ 255 → p ≤ 256 → Has s t 0 ws n p → Kept (pass (reduced 0 s t) n p) ws (Fixed symbol.Comma)
 pass_kept s t n zero ws few flat h = stops s t n ws few h
 pass_kept s t n (suc p) ws few flat h = passed_kept (reduced 0 s t).0 (reduced 0 s t).1 n (suc p) ws few flat (has_reduced ws n (suc p) s t 0 h)
 
-operate_kept : (o : Op) (l : ℕ) (s : List Frame) (t : Expr) (n p : ℕ) (ws : List Terminal) → p ≤ 256 → (left_of o ≤ l → Has s t (left_of o) ws n p) → Kept (operate o l (s, t) n p) ws (Fixed (mark_of o))
+operate_kept : (o : Op) (l : ℕ) (s : List Frame) (t : Expr) (n p : ℕ) (ws : List Terminal) → p ≤ 256 → (left_of o ≤ l → Has s t (left_of o) ws n p) → Kept (operate o l (s, t) n p) ws (Fixed (symbol_of o))
 operate_kept o l s t n p ws flat has =
-    kept_if (leb (left_of o) l && (leb (need s) (level_of o) && ltb n 255)) _ ws (Fixed (mark_of o)) (λ q.
+    kept_if (leb (left_of o) l && (leb (need s) (level_of o) && ltb n 255)) _ ws (Fixed (symbol_of o)) (λ q.
     let a = both_true (leb (left_of o) l) (leb (need s) (level_of o) && ltb n 255) q in
     let b = both_true (leb (need s) (level_of o)) (ltb n 255) a.1 in
     let h = has (leb-true (left_of o) l a.0) in
-    ((h.pre, h.here, h.m, h.k, h.below, h.operand, ap (λ (x : List Terminal). x ++ Fixed (mark_of o) ∷ []) h.all ∙ append_assoc h.pre h.here (Fixed (mark_of o) ∷ []), ap suc h.total, leb-true (need s) (level_of o) b.0), leb-true (suc n) 255 b.1, flat))
+    ((h.pre, h.here, h.m, h.k, h.below, h.operand, ap (λ (x : List Terminal). x ++ Fixed (symbol_of o) ∷ []) h.all ∙ append_assoc h.pre h.here (Fixed (symbol_of o) ∷ []), ap suc h.total, leb-true (need s) (level_of o) b.0), leb-true (suc n) 255 b.1, flat))
 
-ask_kept : (l : ℕ) (s : List Frame) (t : Expr) (n p : ℕ) (ws : List Terminal) → p ≤ 256 → (4 ≤ l → Has s t 4 ws n p) → Kept (ask l (s, t) n p) ws (Fixed mark.Is)
+ask_kept : (l : ℕ) (s : List Frame) (t : Expr) (n p : ℕ) (ws : List Terminal) → p ≤ 256 → (4 ≤ l → Has s t 4 ws n p) → Kept (ask l (s, t) n p) ws (Fixed symbol.Is)
 ask_kept l s t n p ws flat has =
-    kept_if (leb 4 l && (leb (need s) 3 && ltb n 255)) _ ws (Fixed mark.Is) (λ q.
+    kept_if (leb 4 l && (leb (need s) 3 && ltb n 255)) _ ws (Fixed symbol.Is) (λ q.
     let a = both_true (leb 4 l) (leb (need s) 3 && ltb n 255) q in
     let b = both_true (leb (need s) 3) (ltb n 255) a.1 in
     (ws, n, has (leb-true 4 l a.0), leb-true (need s) 3 b.0, refl, refl, leb-true (suc n) 255 b.1, flat))
@@ -322,53 +324,53 @@ looked_up (y ∷ ys) x c are q = by_test (same_bytes x y.0) refl (λ r. looked_u
         subst (IsCallee x) it (subst (λ (z : List ℕ). IsCallee z y.1) (sym (same_bytes_is x y.0 same)) are.0)
     by_test false other ih = ih (sym (ap (λ b. cond b (Some y.1) (look_up ys x)) other) ∙ q)
 
-begins_call : (g : Opening) (x : List ℕ) (p : ℕ) → IsCallee x (Opens g) → Begun g (Word x ∷ Fixed mark.Open ∷ []) 1 p
+begins_call : (g : Opening) (x : List ℕ) (p : ℕ) → IsCallee x (Opens g) → Begun g (Word x ∷ Fixed symbol.Open ∷ []) 1 p
 begins_call Group x p is = absurd is
-begins_call (Aggregate g) x p is = (ap (λ (y : List ℕ). Word y ∷ Fixed mark.Open ∷ []) is, refl)
-begins_call (Access g) x p is = (ap (λ (y : List ℕ). Word y ∷ Fixed mark.Open ∷ []) is, refl)
-begins_call Dlvalue1 x p is = (ap (λ (y : List ℕ). Word y ∷ Fixed mark.Open ∷ []) is, refl)
+begins_call (Aggregate g) x p is = (ap (λ (y : List ℕ). Word y ∷ Fixed symbol.Open ∷ []) is, refl)
+begins_call (Access g) x p is = (ap (λ (y : List ℕ). Word y ∷ Fixed symbol.Open ∷ []) is, refl)
+begins_call Dlvalue1 x p is = (ap (λ (y : List ℕ). Word y ∷ Fixed symbol.Open ∷ []) is, refl)
 begins_call (Dlvalue2 a) x p is = absurd is
 begins_call (Dlvalue3 a b) x p is = absurd is
 
-call_kept : (o : Option Callee) (s : List Frame) (x : List ℕ) (n p : ℕ) (ws : List Terminal) → callee_of x ≡ o → Holds (named s x n p) ws → Kept (call_open o s x n p) ws (Fixed mark.Open)
-call_kept None s x n p ws is h = let a = as_column s x n p ws h in leave_kept s (e.Column (reference None x)) n p ws (Fixed mark.Open) a.1 (Has-down s (e.Column (reference None x)) 7 0 ws n p (omega arith) a.0)
-call_kept (Some Count) s x n p ws is h = kept_if (ltb n 255 && ltb p 256) _ ws (Fixed mark.Open) (λ q.
+call_kept : (o : Option Callee) (s : List Frame) (x : List ℕ) (n p : ℕ) (ws : List Terminal) → callee_of x ≡ o → Holds (named s x n p) ws → Kept (call_open o s x n p) ws (Fixed symbol.Open)
+call_kept None s x n p ws is h = let a = as_column s x n p ws h in leave_kept s (e.Column (reference None x)) n p ws (Fixed symbol.Open) a.1 (Has-down s (e.Column (reference None x)) 7 0 ws n p (omega arith) a.0)
+call_kept (Some Count) s x n p ws is h = kept_if (ltb n 255 && ltb p 256) _ ws (Fixed symbol.Open) (λ q.
     let a = both_true (ltb n 255) (ltb p 256) q in
     let name : x ≡ words.count = looked_up callees x Count are_callees is in
-    let all : ws ++ Fixed mark.Open ∷ [] ≡ h.0 ++ Word words.count ∷ Fixed mark.Open ∷ [] = ap (λ (y : List Terminal). y ++ Fixed mark.Open ∷ []) (h.2 ∙ ap (λ (y : List ℕ). h.0 ++ Word y ∷ []) name) ∙ append_assoc h.0 (Word words.count ∷ []) (Fixed mark.Open ∷ []) in
+    let all : ws ++ Fixed symbol.Open ∷ [] ≡ h.0 ++ Word words.count ∷ Fixed symbol.Open ∷ [] = ap (λ (y : List Terminal). y ++ Fixed symbol.Open ∷ []) (h.2 ∙ ap (λ (y : List ℕ). h.0 ++ Word y ∷ []) name) ∙ append_assoc h.0 (Word words.count ∷ []) (Fixed symbol.Open ∷ []) in
     (h.0, n, h.1, all, refl, leb-true (suc n) 255 a.0, leb-true (suc p) 256 a.1))
-call_kept (Some (Opens g)) s x n p ws is h = kept_if (ltb n 255 && ltb p 256) _ ws (Fixed mark.Open) (λ q.
+call_kept (Some (Opens g)) s x n p ws is h = kept_if (ltb n 255 && ltb p 256) _ ws (Fixed symbol.Open) (λ q.
     let a = both_true (ltb n 255) (ltb p 256) q in
     let lt = leb-true (suc p) 256 a.1 in
-    let all : ws ++ Fixed mark.Open ∷ [] ≡ h.0 ++ Word x ∷ Fixed mark.Open ∷ [] = ap (λ (y : List Terminal). y ++ Fixed mark.Open ∷ []) h.2 ∙ append_assoc h.0 (Word x ∷ []) (Fixed mark.Open ∷ []) in
-    ((h.0, Word x ∷ Fixed mark.Open ∷ [], n, 1, p, h.1, begins_call g x (suc p) (looked_up callees x (Opens g) are_callees is), all, omega arith, refl, lt), leb-true (suc n) 255 a.0, lt))
+    let all : ws ++ Fixed symbol.Open ∷ [] ≡ h.0 ++ Word x ∷ Fixed symbol.Open ∷ [] = ap (λ (y : List Terminal). y ++ Fixed symbol.Open ∷ []) h.2 ∙ append_assoc h.0 (Word x ∷ []) (Fixed symbol.Open ∷ []) in
+    ((h.0, Word x ∷ Fixed symbol.Open ∷ [], n, 1, p, h.1, begins_call g x (suc p) (looked_up callees x (Opens g) are_callees is), all, omega arith, refl, lt), leb-true (suc n) 255 a.0, lt))
 
 cue_kept : (s : State) (c : Cue) (ws : List Terminal) → Holds s ws → Kept (move s c) ws (uncue c)
 unfolding uncue
 cue_kept (due s n p) (an_operator Sub) ws h =
-    kept_if (ltb n 255) _ ws (Fixed mark.Minus) (λ q. ((ws, n, h.0, refl, refl, needs s), leb-true (suc n) 255 q, h.2))
+    kept_if (ltb n 255) _ ws (Fixed symbol.Minus) (λ q. ((ws, n, h.0, refl, refl, needs s), leb-true (suc n) 255 q, h.2))
 cue_kept (due s n p) a_not ws h =
-    kept_if (leb (need s) 2 && ltb n 255) _ ws (Fixed mark.Not) (λ q.
+    kept_if (leb (need s) 2 && ltb n 255) _ ws (Fixed symbol.Not) (λ q.
     let a = both_true (leb (need s) 2) (ltb n 255) q in
     ((ws, n, h.0, refl, refl, leb-true (need s) 2 a.0), leb-true (suc n) 255 a.1, h.2))
-cue_kept (due s n p) an_open ws h = kept_if (ltb p 256) _ ws (Fixed mark.Open) (λ q. let lt = leb-true (suc p) 256 q in ((ws, Fixed mark.Open ∷ [], n, 0, p, h.0, (refl, refl), refl, omega arith, refl, lt), h.1, lt))
-cue_kept (due s n p) a_null ws h = simple s null (Fixed mark.Null ∷ []) ws n p tt refl (omega arith) refl refl h
+cue_kept (due s n p) an_open ws h = kept_if (ltb p 256) _ ws (Fixed symbol.Open) (λ q. let lt = leb-true (suc p) 256 q in ((ws, Fixed symbol.Open ∷ [], n, 0, p, h.0, (refl, refl), refl, omega arith, refl, lt), h.1, lt))
+cue_kept (due s n p) a_null ws h = simple s null (Fixed symbol.Null ∷ []) ws n p tt refl (omega arith) refl refl h
 cue_kept (due s n p) (a_number x) ws h = simple s (number x) (Number x ∷ []) ws n p tt refl (omega arith) refl refl h
 cue_kept (due s n p) (a_literal x) ws h = simple s (literal x) (Literal x ∷ []) ws n p tt refl (omega arith) refl refl h
 cue_kept (due s n p) (a_word x) ws h = (ws, h.0, refl, h.1, h.2)
 cue_kept (due s n p) _ ws h = tt
 cue_kept (after s t l n p) c ws h = after_kept s t l n p c ws h
 cue_kept (named s x n p) an_open ws h = call_kept (callee_of x) s x n p ws refl h
-cue_kept (named s x n p) a_dot ws h = (h.0, h.1, ap (λ (y : List Terminal). y ++ Fixed mark.Dot ∷ []) h.2 ∙ append_assoc h.0 (Word x ∷ []) (Fixed mark.Dot ∷ []), h.3, h.4)
+cue_kept (named s x n p) a_dot ws h = (h.0, h.1, ap (λ (y : List Terminal). y ++ Fixed symbol.Dot ∷ []) h.2 ∙ append_assoc h.0 (Word x ∷ []) (Fixed symbol.Dot ∷ []), h.3, h.4)
 cue_kept (named s x n p) c ws h = after_kept s (e.Column (reference None x)) 7 n p c ws (as_column s x n p ws h)
 cue_kept (dotted s x n p) (a_word y) ws h = as_reference s x y n p ws h
 cue_kept (dotted s x n p) _ ws h = tt
 cue_kept (is_due s t n p) a_null ws h = answered s t n p ws h
-cue_kept (is_due s t n p) a_not ws h = (h.0, h.1, h.2, h.3, ap (λ (x : List Terminal). x ++ Fixed mark.Not ∷ []) h.4 ∙ append_assoc h.0 (Fixed mark.Is ∷ []) (Fixed mark.Not ∷ []), h.5, h.6, h.7)
+cue_kept (is_due s t n p) a_not ws h = (h.0, h.1, h.2, h.3, ap (λ (x : List Terminal). x ++ Fixed symbol.Not ∷ []) h.4 ∙ append_assoc h.0 (Fixed symbol.Is ∷ []) (Fixed symbol.Not ∷ []), h.5, h.6, h.7)
 cue_kept (is_due s t n p) _ ws h = tt
 cue_kept (not_due s t n p) a_null ws h = answered_not s t n p ws h
 cue_kept (not_due s t n p) _ ws h = tt
-cue_kept (star_due s n p) (an_operator Mul) ws h = (h.0, h.1, h.2, ap (λ (z : List Terminal). z ++ Fixed mark.Star ∷ []) h.3 ∙ append_assoc h.0 (Word words.count ∷ Fixed mark.Open ∷ []) (Fixed mark.Star ∷ []), h.4, h.5, h.6)
+cue_kept (star_due s n p) (an_operator Mul) ws h = (h.0, h.1, h.2, ap (λ (z : List Terminal). z ++ Fixed symbol.Star ∷ []) h.3 ∙ append_assoc h.0 (Word words.count ∷ Fixed symbol.Open ∷ []) (Fixed symbol.Star ∷ []), h.4, h.5, h.6)
 cue_kept (star_due s n p) _ ws h = tt
 cue_kept (star_read s n p) a_close ws h = counted s n p ws h
 cue_kept (star_read s n p) _ ws h = tt
@@ -405,7 +407,7 @@ told_outcome (Go q) s pre ws v i next h kept go = later pre ws v i (next q) (go 
 told_outcome (Stop t) s pre ws v i next h kept go = here_reaches t pre (v ∷ ws) i kept
 told_outcome Refuse s pre ws v i next h kept go = here_begins s pre (v ∷ ws) i h
 
-ended_outcome : (m : Move) (s : State) (pre : List Terminal) (i : ℕ) (next : State → Place) → Holds s pre → Kept m pre (Fixed mark.Close) → ((q : State) → m ≡ Go q → ⊥) → Outcome pre [] i (told m i next)
+ended_outcome : (m : Move) (s : State) (pre : List Terminal) (i : ℕ) (next : State → Place) → Holds s pre → Kept m pre (Fixed symbol.Close) → ((q : State) → m ≡ Go q → ⊥) → Outcome pre [] i (told m i next)
 ended_outcome (Go q) s pre i next h kept halts = absurd (halts q refl)
 ended_outcome (Stop t) s pre i next h kept halts = here_reaches t pre [] i kept
 ended_outcome Refuse s pre i next h kept halts = here_begins s pre [] i h
@@ -415,10 +417,10 @@ leave_goes_not r zero q h = cc
 leave_goes_not r (suc p) q h = cc
 
 pub outcome : (ws : List Terminal) (s : State) (pre : List Terminal) (i : ℕ) → Holds s pre → Outcome pre ws i (run s i ws)
-outcome [] (after s t l n p) pre i h = ended_outcome (leave (reduced 0 s t) p) (after s t l n p) pre i (λ _. Err i) h (leave_kept s t n p pre (Fixed mark.Close) h.1 (Has-down s t l 0 pre n p (omega arith) h.0)) (leave_goes_not (reduced 0 s t) p)
+outcome [] (after s t l n p) pre i h = ended_outcome (leave (reduced 0 s t) p) (after s t l n p) pre i (λ _. Err i) h (leave_kept s t n p pre (Fixed symbol.Close) h.1 (Has-down s t l 0 pre n p (omega arith) h.0)) (leave_goes_not (reduced 0 s t) p)
 outcome [] (named s x n p) pre i h =
     let a = as_column s x n p pre h in
     let c = e.Column (reference None x) in
-    ended_outcome (leave (reduced 0 s c) p) (named s x n p) pre i (λ _. Err i) h (leave_kept s c n p pre (Fixed mark.Close) a.1 (Has-down s c 7 0 pre n p (omega arith) a.0)) (leave_goes_not (reduced 0 s c) p)
+    ended_outcome (leave (reduced 0 s c) p) (named s x n p) pre i (λ _. Err i) h (leave_kept s c n p pre (Fixed symbol.Close) a.1 (Has-down s c 7 0 pre n p (omega arith) a.0)) (leave_goes_not (reduced 0 s c) p)
 outcome [] s pre i h = here_begins s pre [] i h
 outcome (v ∷ ws) s pre i h = told_outcome (move s (cue v)) s pre ws v i (λ q. run q (suc i) ws) h (move_kept s v pre h) (λ q hq. outcome ws q (pre ++ v ∷ []) (suc i) hq)

@@ -5,13 +5,14 @@ use Rattle.std.proofs.lemmas.Bool.{le-ltb, ltb-false}
 use Rattle.std.proofs.lemmas.List.{append-nil, take_at, nil_from_length}
 use Rattle.dl_base.specs.declared.statement.Expr.{Expr}
 use Rattle.dl_base.specs.declared.statement.Expr as e
-use Rattle.sql_grammar.specs.declared.mark.Mark.TheVariants as mark
+use Rattle.sql_grammar.specs.declared.symbol.Symbol.TheVariants as symbol
 use Rattle.sql_grammar.specs.declared.terminal.Terminal.{Terminal}
 use Rattle.sql_grammar.specs.declared.terminal.Terminal.TheVariants.{Fixed}
 use Rattle.sql_grammar.specs.Cues.{Cue, an_operator, an_is, an_open, a_dot, cue}
 use Rattle.sql_grammar.specs.Forms.{null, text, tree, operators, level}
 use Rattle.sql_grammar.specs.Machine.{due, after, move_after, told, run, Stop}
-use Rattle.sql_grammar.specs.Lang.{Lang, Reader, good, BeginsSome, IsFaultOf, Expression, expression_at, ends_at, whole_at}
+use Rattle.sql_grammar.specs.Lang.{Lang, BeginsSome, IsFaultOf, Expression}
+use Rattle.sql_grammar.specs.Readers.{Reader, good, expression_at, ends_at, whole_at}
 use Rattle.sql_grammar.proofs.Place.{alike}
 use Rattle.sql_grammar.proofs.Complete.{EndsAt, Ends, reads}
 use Rattle.sql_grammar.proofs.Sound.{Outcome, outcome}
@@ -73,7 +74,7 @@ reads_expression = record {
 }
 
 pub has_expression : Has Expression
-has_expression = record { value = e.Null; text = Fixed mark.Null ∷ []; says = record { form = null; is_form = tt; text_is = refl; tree_is = refl; few = omega arith; flat = omega arith }; proper = (tt, tt) }
+has_expression = record { value = e.Null; text = Fixed symbol.Null ∷ []; says = record { form = null; is_form = tt; text_is = refl; tree_is = refl; few = omega arith; flat = omega arith }; proper = (tt, tt) }
 
 -- ---- all of a text
 

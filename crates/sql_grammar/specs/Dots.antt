@@ -1,11 +1,11 @@
--- Where dots stand.
+-- What is printed: where dots stand among terminals.
 use Rattle.std.specs.Prelude.{◌≡◌, Bool, true, false, List, [], ◌∷◌}
-use Rattle.sql_grammar.specs.declared.mark.Mark.TheVariants as mark
+use Rattle.sql_grammar.specs.declared.symbol.Symbol.TheVariants as symbol
 use Rattle.sql_grammar.specs.declared.terminal.Terminal.{Terminal}
 use Rattle.sql_grammar.specs.declared.terminal.Terminal.TheVariants.{Fixed, Word}
 
 abbrev pub is_dot : Terminal → Bool
-is_dot (Fixed mark.Dot) = true
+is_dot (Fixed symbol.Dot) = true
 is_dot _ = false
 
 abbrev pub is_word : Terminal → Bool

@@ -1,4 +1,4 @@
--- Expressions, and the terminals that say them.
+-- The language: expressions, and the terminals that say them. Read Levels and Words first.
 use Rattle.std.specs.Prelude.{◌≡◌, ℕ, ℤ, Bool, true, false, suc, ◌+◌, ◌≤◌, List, [], ◌∷◌, ◌++◌, max, Option, Some, None}
 use Rattle.dl_base.specs.declared.statement.Op.{Op}
 use Rattle.dl_base.specs.declared.statement.Fold.{Fold}
@@ -8,11 +8,11 @@ use Rattle.dl_base.specs.declared.statement.Part.TheVariants.{Comment, LinkType,
 use Rattle.dl_base.specs.declared.statement.Ref.{Ref}
 use Rattle.dl_base.specs.declared.statement.Expr.{Expr}
 use Rattle.dl_base.specs.declared.statement.Expr as e
-use Rattle.sql_grammar.specs.declared.mark.Mark.TheVariants as mark
+use Rattle.sql_grammar.specs.declared.symbol.Symbol.TheVariants as symbol
 use Rattle.sql_grammar.specs.declared.terminal.Terminal.{Terminal}
 use Rattle.sql_grammar.specs.declared.terminal.Terminal.TheVariants.{Fixed, Word, Number, Literal}
-use Rattle.sql_grammar.specs.Levels.{level_of, left_of, right_of}
-use Rattle.sql_grammar.specs.Cues.{mark_of}
+use Rattle.sql_grammar.specs.Levels.{symbol_of, level_of, left_of, right_of}
+use Rattle.sql_grammar.specs.Bounds.{most_operators, most_open}
 use Rattle.sql_grammar.specs.Words as words
 
 -- an expression as it is written, with its parentheses
@@ -50,13 +50,13 @@ part_name Complete = words.dlurlcomplete
 
 -- NULL or NOT NULL
 abbrev pub null_text : Bool → List Terminal
-null_text true = Fixed mark.Null ∷ []
-null_text false = Fixed mark.Not ∷ Fixed mark.Null ∷ []
+null_text true = Fixed symbol.Null ∷ []
+null_text false = Fixed symbol.Not ∷ Fixed symbol.Null ∷ []
 
 -- a name, or two with a dot between them
 abbrev pub column_text : Option (List ℕ) → List ℕ → List Terminal
 column_text None c = Word c ∷ []
-column_text (Some t) c = Word t ∷ Fixed mark.Dot ∷ Word c ∷ []
+column_text (Some t) c = Word t ∷ Fixed symbol.Dot ∷ Word c ∷ []
 
 abbrev pub reference : Option (List ℕ) → List ℕ → Ref
 reference t c = record { table = t; column = c }
@@ -90,19 +90,19 @@ IsForm (dlvalue3 f g h) = IsForm f × IsForm g × IsForm h
 abbrev pub text : Form → List Terminal
 text (number n) = Number n ∷ []
 text (literal t) = Literal t ∷ []
-text null = Fixed mark.Null ∷ []
+text null = Fixed symbol.Null ∷ []
 text (column t c) = column_text t c
-text (parens f) = Fixed mark.Open ∷ (text f ++ Fixed mark.Close ∷ [])
-text (not f) = Fixed mark.Not ∷ text f
-text (minus f) = Fixed mark.Minus ∷ text f
-text (binary o f g) = text f ++ Fixed (mark_of o) ∷ text g
-text (is_null f b) = text f ++ Fixed mark.Is ∷ null_text b
-text count_all = Word words.count ∷ Fixed mark.Open ∷ Fixed mark.Star ∷ Fixed mark.Close ∷ []
-text (aggregate g f) = Word (fold_name g) ∷ Fixed mark.Open ∷ (text f ++ Fixed mark.Close ∷ [])
-text (access p f) = Word (part_name p) ∷ Fixed mark.Open ∷ (text f ++ Fixed mark.Close ∷ [])
-text (dlvalue1 f) = Word words.dlvalue ∷ Fixed mark.Open ∷ (text f ++ Fixed mark.Close ∷ [])
-text (dlvalue2 f g) = Word words.dlvalue ∷ Fixed mark.Open ∷ (text f ++ Fixed mark.Comma ∷ (text g ++ Fixed mark.Close ∷ []))
-text (dlvalue3 f g h) = Word words.dlvalue ∷ Fixed mark.Open ∷ (text f ++ Fixed mark.Comma ∷ (text g ++ Fixed mark.Comma ∷ (text h ++ Fixed mark.Close ∷ [])))
+text (parens f) = Fixed symbol.Open ∷ (text f ++ Fixed symbol.Close ∷ [])
+text (not f) = Fixed symbol.Not ∷ text f
+text (minus f) = Fixed symbol.Minus ∷ text f
+text (binary o f g) = text f ++ Fixed (symbol_of o) ∷ text g
+text (is_null f b) = text f ++ Fixed symbol.Is ∷ null_text b
+text count_all = Word words.count ∷ Fixed symbol.Open ∷ Fixed symbol.Star ∷ Fixed symbol.Close ∷ []
+text (aggregate g f) = Word (fold_name g) ∷ Fixed symbol.Open ∷ (text f ++ Fixed symbol.Close ∷ [])
+text (access p f) = Word (part_name p) ∷ Fixed symbol.Open ∷ (text f ++ Fixed symbol.Close ∷ [])
+text (dlvalue1 f) = Word words.dlvalue ∷ Fixed symbol.Open ∷ (text f ++ Fixed symbol.Close ∷ [])
+text (dlvalue2 f g) = Word words.dlvalue ∷ Fixed symbol.Open ∷ (text f ++ Fixed symbol.Comma ∷ (text g ++ Fixed symbol.Close ∷ []))
+text (dlvalue3 f g h) = Word words.dlvalue ∷ Fixed symbol.Open ∷ (text f ++ Fixed symbol.Comma ∷ (text g ++ Fixed symbol.Comma ∷ (text h ++ Fixed symbol.Close ∷ [])))
 
 abbrev pub tree : Form → Expr
 tree (number n) = e.Number n
@@ -163,5 +163,5 @@ pub record Derives (ws : List Terminal) (t : Expr) : Type 0 where
   pub is_form : IsForm form
   pub text_is : text form ≡ ws
   pub tree_is : tree form ≡ t
-  pub few : operators form ≤ 255
-  pub flat : depth form ≤ 256
+  pub few : operators form ≤ most_operators
+  pub flat : depth form ≤ most_open

@@ -1,7 +1,24 @@
--- How tightly the operators bind: OR 0, AND 1, NOT 2, comparisons and IS NULL 3, sums 4, products 5, a sign 6, the rest 7.
+-- The language: how the operators are said, and how tightly they bind: OR 0, AND 1, NOT 2, comparisons and IS NULL 3, sums 4, products 5, a sign 6, the rest 7.
 use Rattle.std.specs.Prelude.{ℕ, suc}
 use Rattle.dl_base.specs.declared.statement.Op.{Op}
 use Rattle.dl_base.specs.declared.statement.Op.TheVariants.{Or, And, Eq, Ne, Lt, Le, Gt, Ge, Add, Sub, Mul, Div}
+use Rattle.sql_grammar.specs.declared.symbol.Symbol.{Symbol}
+use Rattle.sql_grammar.specs.declared.symbol.Symbol.TheVariants as symbol
+
+-- The sign or the word of an operator.
+abbrev pub symbol_of : Op → Symbol
+symbol_of Or = symbol.Or
+symbol_of And = symbol.And
+symbol_of Eq = symbol.Equal
+symbol_of Ne = symbol.Unequal
+symbol_of Lt = symbol.Less
+symbol_of Le = symbol.LessEqual
+symbol_of Gt = symbol.Greater
+symbol_of Ge = symbol.GreaterEqual
+symbol_of Add = symbol.Plus
+symbol_of Sub = symbol.Minus
+symbol_of Mul = symbol.Star
+symbol_of Div = symbol.Slash
 
 abbrev pub level_of : Op → ℕ
 level_of Or = 0

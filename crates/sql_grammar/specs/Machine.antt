@@ -1,5 +1,5 @@
--- Reading an expression from left to right over a stack of what is still open.
-use Rattle.std.specs.Prelude.{ℕ, zero, suc, nat_le, nat_lt, Bool, true, false, ◌&&◌, if◌then◌else◌, ◌==◌, List, [], ◌∷◌, Option, Some, None, Result, Ok, Err}
+-- The reader: an expression is read from left to right over a stack of what is still open. Read Forms and Cues first. That it reads what Forms says is shown in proofs/Sound and proofs/Complete.
+use Rattle.std.specs.Prelude.{ℕ, zero, suc, nat_le, nat_lt, Bool, true, false, ◌&&◌, if◌then◌else◌, List, [], ◌∷◌, Option, Some, None, Result, Ok, Err}
 use Rattle.dl_base.specs.declared.statement.Op.{Op}
 use Rattle.dl_base.specs.declared.statement.Op.TheVariants.{Sub, Mul}
 use Rattle.dl_base.specs.declared.statement.Fold.TheVariants as fold
@@ -16,7 +16,9 @@ use Rattle.sql_grammar.specs.declared.frame.Frame.TheVariants.{Opened, Negation,
 use Rattle.sql_grammar.specs.Levels.{level_of, left_of, right_of}
 use Rattle.sql_grammar.specs.Cues.{Cue, an_operator, a_not, an_is, a_null, an_open, a_close, a_comma, a_dot, a_number, a_literal, a_word, cue}
 use Rattle.sql_grammar.specs.Forms.{reference}
+use Rattle.sql_grammar.specs.Bounds.{most_operators, most_open}
 use Rattle.sql_grammar.specs.Words as words
+use Rattle.sql_grammar.specs.Words.{same_bytes}
 
 -- how tightly the operand after a frame binds at least
 abbrev pub frame_need : Frame → ℕ
@@ -57,13 +59,6 @@ applied (Infix o a) t = e.Binary o a t
 abbrev pub reduced : ℕ → List Frame → Expr → List Frame × Expr
 reduced l [] t = ([], t)
 reduced l (f ∷ s) t = if binds_at l f then reduced l s (applied f t) else (f ∷ s, t)
-
--- the same bytes
-abbrev pub same_bytes : List ℕ → List ℕ → Bool
-same_bytes [] [] = true
-same_bytes [] (b ∷ bs) = false
-same_bytes (a ∷ as') [] = false
-same_bytes (a ∷ as') (b ∷ bs) = a == b && same_bytes as' bs
 
 -- the functions by their names
 abbrev pub callees : List (List ℕ × Callee)
@@ -108,11 +103,11 @@ pub data Move : Type 0 where
 
 -- an operator after an operand that binds as tightly as l
 abbrev pub operate : Op → ℕ → List Frame × Expr → ℕ → ℕ → Move
-operate o l r n p = if nat_le (left_of o) l && (nat_le (need r.0) (level_of o) && nat_lt n 255) then Go (due (Infix o r.1 ∷ r.0) (suc n) p) else Refuse
+operate o l r n p = if nat_le (left_of o) l && (nat_le (need r.0) (level_of o) && nat_lt n most_operators) then Go (due (Infix o r.1 ∷ r.0) (suc n) p) else Refuse
 
 -- IS after an operand
 abbrev pub ask : ℕ → List Frame × Expr → ℕ → ℕ → Move
-ask l r n p = if nat_le 4 l && (nat_le (need r.0) 3 && nat_lt n 255) then Go (is_due r.0 r.1 (suc n) p) else Refuse
+ask l r n p = if nat_le 4 l && (nat_le (need r.0) 3 && nat_lt n most_operators) then Go (is_due r.0 r.1 (suc n) p) else Refuse
 
 abbrev pub closed : List Frame → Expr → ℕ → ℕ → Move
 closed (Opened g ∷ s) t n p = Go (after s (enclosed g t) 7 n p)
@@ -148,13 +143,13 @@ move_after s t l n p _ = leave (reduced 0 s t) p
 -- a parenthesis behind a word
 abbrev pub call_open : Option Callee → List Frame → List ℕ → ℕ → ℕ → Move
 call_open None s w n p = leave (reduced 0 s (e.Column (reference None w))) p
-call_open (Some Count) s w n p = if nat_lt n 255 && nat_lt p 256 then Go (star_due s (suc n) p) else Refuse
-call_open (Some (Opens g)) s w n p = if nat_lt n 255 && nat_lt p 256 then Go (due (Opened g ∷ s) (suc n) (suc p)) else Refuse
+call_open (Some Count) s w n p = if nat_lt n most_operators && nat_lt p most_open then Go (star_due s (suc n) p) else Refuse
+call_open (Some (Opens g)) s w n p = if nat_lt n most_operators && nat_lt p most_open then Go (due (Opened g ∷ s) (suc n) (suc p)) else Refuse
 
 abbrev pub move : State → Cue → Move
-move (due s n p) (an_operator Sub) = if nat_lt n 255 then Go (due (Sign ∷ s) (suc n) p) else Refuse
-move (due s n p) a_not = if nat_le (need s) 2 && nat_lt n 255 then Go (due (Negation ∷ s) (suc n) p) else Refuse
-move (due s n p) an_open = if nat_lt p 256 then Go (due (Opened Group ∷ s) n (suc p)) else Refuse
+move (due s n p) (an_operator Sub) = if nat_lt n most_operators then Go (due (Sign ∷ s) (suc n) p) else Refuse
+move (due s n p) a_not = if nat_le (need s) 2 && nat_lt n most_operators then Go (due (Negation ∷ s) (suc n) p) else Refuse
+move (due s n p) an_open = if nat_lt p most_open then Go (due (Opened Group ∷ s) n (suc p)) else Refuse
 move (due s n p) a_null = Go (after s e.Null 7 n p)
 move (due s n p) (a_number x) = Go (after s (e.Number x) 7 n p)
 move (due s n p) (a_literal x) = Go (after s (e.Literal x) 7 n p)

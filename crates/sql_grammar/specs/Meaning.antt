@@ -1,4 +1,4 @@
--- Which statement a text is.
+-- The language: which statement a text is. Read Statements first, and of the lexemes sql_lex/specs/Lexes.
 use Rattle.std.specs.Prelude.{ℕ, List, map}
 use Rattle.dl_base.specs.declared.statement.Stmt.{Stmt}
 use Rattle.sql_lex.specs.declared.lexeme.Lexeme.{Lexeme}

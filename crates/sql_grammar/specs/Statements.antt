@@ -1,4 +1,4 @@
--- Statements: what says them, production by production.
+-- The language: statements, and what says them, production by production. Read Lang first: with Forms, Levels, Words, Reserved and Bounds it is the whole grammar.
 use Rattle.std.specs.Prelude.{ℕ, ℤ, List, [], ◌∷◌, Option, Some, None, Bool, true, false, map}
 use Rattle.std.specs.List.{count_by}
 use Rattle.dl_base.specs.declared.column.ReadBy.{ReadBy}
@@ -23,8 +23,8 @@ use Rattle.dl_base.specs.declared.statement.KindDef.TheVariants as kind
 use Rattle.dl_base.specs.declared.statement.ColumnDef.{ColumnDef}
 use Rattle.dl_base.specs.declared.statement.Stmt.{Stmt}
 use Rattle.dl_base.specs.declared.statement.Stmt.TheVariants as stmt
-use Rattle.sql_grammar.specs.declared.mark.Mark.TheVariants as mark
-use Rattle.sql_grammar.specs.declared.token.Token.TheVariants.{Mark, Word}
+use Rattle.sql_grammar.specs.declared.symbol.Symbol.TheVariants as symbol
+use Rattle.sql_grammar.specs.declared.token.Token.TheVariants.{Symbol, Word}
 use Rattle.sql_grammar.specs.declared.token.LinkWord.TheVariants as link
 use Rattle.sql_grammar.specs.declared.terminal.Terminal.{Terminal}
 use Rattle.sql_grammar.specs.declared.terminal.Terminal.TheVariants as terminal
@@ -69,11 +69,11 @@ YesNo = Or (After (Word link.Yes) (Just true)) (After (Word link.No) (Just false
 
 -- RESTORE | DELETE | NONE
 abbrev pub UnlinkWord : Lang OnUnlink
-UnlinkWord = Or (After (Word link.Restore) (Just unlink.Restore)) (Or (After (Mark mark.Delete) (Just unlink.Delete)) (After (Word link.None) (Just unlink.Nothing)))
+UnlinkWord = Or (After (Word link.Restore) (Just unlink.Restore)) (Or (After (Symbol symbol.Delete) (Just unlink.Delete)) (After (Word link.None) (Just unlink.Nothing)))
 
 -- [ON UNLINK (RESTORE | DELETE | NONE)], and NONE where it is left out
 abbrev pub Unlinking : Lang OnUnlink
-Unlinking = Or (After (Mark mark.On) (After (Word link.Unlink) UnlinkWord)) (Just unlink.Nothing)
+Unlinking = Or (After (Symbol symbol.On) (After (Word link.Unlink) UnlinkWord)) (Just unlink.Nothing)
 
 -- RECOVERY (YES | NO) [ON UNLINK ..]
 abbrev pub Recovery : Lang (Bool × OnUnlink)
@@ -108,11 +108,11 @@ DatalinkTail = Or (After (Word link.Linktype) (After (Word link.Url) Control)) C
 
 -- INTEGER | BIGINT | VARCHAR ( number ) | DATALINK ..
 abbrev pub Kind : Lang KindDef
-Kind = Or (After (Mark mark.Integer) (Just kind.Integer)) (Or (After (Mark mark.Bigint) (Just kind.Integer)) (Or (After (Mark mark.Varchar) (As kind.Varchar (Enclosed (One number_of)))) (After (Mark mark.Datalink) DatalinkTail)))
+Kind = Or (After (Symbol symbol.Integer) (Just kind.Integer)) (Or (After (Symbol symbol.Bigint) (Just kind.Integer)) (Or (After (Symbol symbol.Varchar) (As kind.Varchar (Enclosed (One number_of)))) (After (Symbol symbol.Datalink) DatalinkTail)))
 
 -- NOT NULL | PRIMARY KEY
 abbrev pub Rule : Lang ColumnRule
-Rule = Or (After (Mark mark.Not) (After (Mark mark.Null) (Just rule.NotNull))) (After (Mark mark.Primary) (After (Mark mark.Key) (Just rule.Key)))
+Rule = Or (After (Symbol symbol.Not) (After (Symbol symbol.Null) (Just rule.NotNull))) (After (Symbol symbol.Primary) (After (Symbol symbol.Key) (Just rule.Key)))
 
 abbrev pub is_not_null : ColumnRule → Bool
 is_not_null rule.NotNull = true
@@ -131,11 +131,11 @@ Column = As column_of (Then Name (Then Kind (Many Rule)))
 
 -- TABLE name ( column {, column} )
 abbrev pub CreateTail : Lang Stmt
-CreateTail = As (λ p. stmt.CreateTable p.0 p.1) (After (Mark mark.Table) (Then Name (Enclosed (Listed Column))))
+CreateTail = As (λ p. stmt.CreateTable p.0 p.1) (After (Symbol symbol.Table) (Then Name (Enclosed (Listed Column))))
 
 -- TABLE name
 abbrev pub DropTail : Lang Stmt
-DropTail = As stmt.DropTable (After (Mark mark.Table) Name)
+DropTail = As stmt.DropTable (After (Symbol symbol.Table) Name)
 
 -- ---- INSERT
 
@@ -145,25 +145,25 @@ Tuple = Enclosed (Listed Expression)
 
 -- INTO name [( name {, name} )] VALUES tuple {, tuple}
 abbrev pub InsertTail : Lang Stmt
-InsertTail = As (λ p. stmt.Insert p.0 p.1.0 p.1.1) (After (Mark mark.Into) (Then Name (Then (Maybe (Enclosed (Listed Name))) (After (Mark mark.Values) (Listed Tuple)))))
+InsertTail = As (λ p. stmt.Insert p.0 p.1.0 p.1.1) (After (Symbol symbol.Into) (Then Name (Then (Maybe (Enclosed (Listed Name))) (After (Symbol symbol.Values) (Listed Tuple)))))
 
 -- ---- UPDATE and DELETE
 
 -- [WHERE expr]
 abbrev pub Filter : Lang (Option Expr)
-Filter = Maybe (After (Mark mark.Where) Expression)
+Filter = Maybe (After (Symbol symbol.Where) Expression)
 
 -- name = expr
 abbrev pub Assigned : Lang (List ℕ × Expr)
-Assigned = Then Name (After (Mark mark.Equal) Expression)
+Assigned = Then Name (After (Symbol symbol.Equal) Expression)
 
 -- name SET name = expr {, name = expr} [WHERE expr]
 abbrev pub UpdateTail : Lang Stmt
-UpdateTail = As (λ p. stmt.Update p.0 p.1.0 p.1.1) (Then Name (After (Mark mark.Set) (Then (Listed Assigned) Filter)))
+UpdateTail = As (λ p. stmt.Update p.0 p.1.0 p.1.1) (Then Name (After (Symbol symbol.Set) (Then (Listed Assigned) Filter)))
 
 -- FROM name [WHERE expr]
 abbrev pub DeleteTail : Lang Stmt
-DeleteTail = As (λ p. stmt.Delete p.0 p.1) (After (Mark mark.From) (Then Name Filter))
+DeleteTail = As (λ p. stmt.Delete p.0 p.1) (After (Symbol symbol.From) (Then Name Filter))
 
 -- ---- SELECT
 
@@ -172,15 +172,15 @@ item_of p = record { expr = p.0; alias = p.1 }
 
 -- expr [AS name]
 abbrev pub ItemText : Lang Item
-ItemText = As item_of (Then Expression (Maybe (After (Mark mark.As) Name)))
+ItemText = As item_of (Then Expression (Maybe (After (Symbol symbol.As) Name)))
 
 -- * | item {, item}
 abbrev pub Items : Lang (Option (List Item))
-Items = Or (After (Mark mark.Star) (Just None)) (As Some (Listed ItemText))
+Items = Or (After (Symbol symbol.Star) (Just None)) (As Some (Listed ItemText))
 
 -- [[AS] name]
 abbrev pub Alias : Lang (Option (List ℕ))
-Alias = Or (After (Mark mark.As) (As Some Name)) (Maybe Name)
+Alias = Or (After (Symbol symbol.As) (As Some Name)) (Maybe Name)
 
 abbrev pub source_of : List ℕ × Option (List ℕ) → TableRef
 source_of p = record { table = p.0; alias = p.1 }
@@ -195,11 +195,11 @@ Following = TableRef × Option Expr
 
 -- source ON expr
 abbrev pub JoinTail : Lang Following
-JoinTail = As (λ p. (p.0, Some p.1)) (Then Source (After (Mark mark.On) Expression))
+JoinTail = As (λ p. (p.0, Some p.1)) (Then Source (After (Symbol symbol.On) Expression))
 
 -- , source | [INNER] JOIN source ON expr
 abbrev pub Joined : Lang Following
-Joined = Or (After (Mark mark.Comma) (As (λ s. (s, None)) Source)) (Or (After (Mark mark.Join) JoinTail) (After (Mark mark.Inner) (After (Mark mark.Join) JoinTail)))
+Joined = Or (After (Symbol symbol.Comma) (As (λ s. (s, None)) Source)) (Or (After (Symbol symbol.Join) JoinTail) (After (Symbol symbol.Inner) (After (Symbol symbol.Join) JoinTail)))
 
 -- source {, source | [INNER] JOIN source ON expr}
 abbrev pub Sources : Lang (TableRef × List Following)
@@ -215,15 +215,15 @@ ref_of (x, Some y) = reference (Some x) y
 
 -- name [. name]
 abbrev pub RefText : Lang Ref
-RefText = As ref_of (Then Name (Maybe (After (Mark mark.Dot) Name)))
+RefText = As ref_of (Then Name (Maybe (After (Symbol symbol.Dot) Name)))
 
 -- [GROUP BY ref {, ref}]
 abbrev pub Group : Lang (List Ref)
-Group = As some_or_none (Maybe (After (Mark mark.Group) (After (Mark mark.By) (Listed RefText))))
+Group = As some_or_none (Maybe (After (Symbol symbol.Group) (After (Symbol symbol.By) (Listed RefText))))
 
 -- [ASC | DESC]
 abbrev pub Direction : Lang Bool
-Direction = Or (After (Mark mark.Asc) (Just false)) (Or (After (Mark mark.Desc) (Just true)) (Just false))
+Direction = Or (After (Symbol symbol.Asc) (Just false)) (Or (After (Symbol symbol.Desc) (Just true)) (Just false))
 
 abbrev pub key_with : KeyBy × Bool → Key
 key_with p = record { by = p.0; descending = p.1 }
@@ -234,7 +234,7 @@ KeyText = As key_with (Then (One key_of) Direction)
 
 -- [ORDER BY key {, key}]
 abbrev pub Order : Lang (List Key)
-Order = As some_or_none (Maybe (After (Mark mark.Order) (After (Mark mark.By) (Listed KeyText))))
+Order = As some_or_none (Maybe (After (Symbol symbol.Order) (After (Symbol symbol.By) (Listed KeyText))))
 
 abbrev pub conditions_of : List Following → List Expr
 conditions_of [] = []
@@ -250,22 +250,22 @@ FromTail = Then Sources (Then Filter (Then Group Order))
 
 -- (* | item {, item}) FROM sources [WHERE expr] [GROUP BY ..] [ORDER BY ..]
 abbrev pub SelectTail : Lang Stmt
-SelectTail = As select_of (Then Items (After (Mark mark.From) FromTail))
+SelectTail = As select_of (Then Items (After (Symbol symbol.From) FromTail))
 
 -- ---- all of them
 
 abbrev pub Sentence : Lang Stmt
 Sentence =
-    Or (After (Mark mark.Begin) (Just stmt.Begin))
-    (Or (After (Mark mark.Commit) (Just stmt.Commit))
-    (Or (After (Mark mark.Rollback) (Just stmt.Rollback))
-    (Or (After (Mark mark.Create) CreateTail)
-    (Or (After (Mark mark.Drop) DropTail)
-    (Or (After (Mark mark.Insert) InsertTail)
-    (Or (After (Mark mark.Update) UpdateTail)
-    (Or (After (Mark mark.Delete) DeleteTail)
-    (After (Mark mark.Select) SelectTail))))))))
+    Or (After (Symbol symbol.Begin) (Just stmt.Begin))
+    (Or (After (Symbol symbol.Commit) (Just stmt.Commit))
+    (Or (After (Symbol symbol.Rollback) (Just stmt.Rollback))
+    (Or (After (Symbol symbol.Create) CreateTail)
+    (Or (After (Symbol symbol.Drop) DropTail)
+    (Or (After (Symbol symbol.Insert) InsertTail)
+    (Or (After (Symbol symbol.Update) UpdateTail)
+    (Or (After (Symbol symbol.Delete) DeleteTail)
+    (After (Symbol symbol.Select) SelectTail))))))))
 
 -- sentence [;]
 abbrev pub Statement : Lang Stmt
-Statement = As (λ p. p.0) (Then Sentence (Maybe (After (Mark mark.Semicolon) (Just {A = Unit {0}} tt))))
+Statement = As (λ p. p.0) (Then Sentence (Maybe (After (Symbol symbol.Semicolon) (Just {A = Unit {0}} tt))))

@@ -1,7 +1,14 @@
--- Words that have a meaning at their place alone, in lower case.
-use Rattle.std.specs.Prelude.{ℕ, List, [], ◌∷◌}
+-- The language: words that have a meaning at their place alone, in lower case.
+use Rattle.std.specs.Prelude.{ℕ, Bool, true, false, ◌&&◌, ◌==◌, List, [], ◌∷◌}
 use Rattle.sql_grammar.specs.declared.token.LinkWord.{LinkWord}
 use Rattle.sql_grammar.specs.declared.token.LinkWord.TheVariants as link
+
+-- the same bytes
+abbrev pub same_bytes : List ℕ → List ℕ → Bool
+same_bytes [] [] = true
+same_bytes [] (b ∷ bs) = false
+same_bytes (a ∷ as') [] = false
+same_bytes (a ∷ as') (b ∷ bs) = a == b && same_bytes as' bs
 
 -- ---- functions
 

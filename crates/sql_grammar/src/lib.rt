@@ -2,13 +2,13 @@
 #![tactic(auto)]
 
 mod frame;
-mod ink;
-mod mark;
+mod print_token;
+mod symbol;
 mod terminal;
 mod token;
 
 pub use frame::{Callee, Frame, Opening};
-pub use ink::{Function, Ink};
-pub use mark::Mark;
+pub use print_token::{Function, PrintToken};
+pub use symbol::Symbol;
 pub use terminal::Terminal;
 pub use token::{LinkWord, Token};

@@ -1,7 +1,7 @@
-use crate::Mark;
+use crate::Symbol;
 
 /// A word of the link options, which is a name elsewhere.
-#[derive(Clone, Copy, Debug, PartialEq, Eq)]
+#[derive(Clone, Copy, PartialEq, Eq)]
 pub enum LinkWord {
     Linktype,
     Url,
@@ -29,8 +29,8 @@ pub enum LinkWord {
 }
 
 /// What the grammar writes between its parts.
-#[derive(Clone, Copy, Debug, PartialEq, Eq)]
+#[derive(Clone, Copy, PartialEq, Eq)]
 pub enum Token {
-    Mark(Mark),
+    Symbol(Symbol),
     Word(LinkWord),
 }

@@ -13,3 +13,4 @@ pub mod Lexed
 pub mod Joins
 pub mod Written
 pub mod Lengths
+pub mod Examples

@@ -1,4 +1,4 @@
--- Lexemes written one behind another, with one blank between them, and none round a dot.
+-- What is printed: lexemes written one behind another, with one blank between them, and none round a dot.
 use Rattle.std.specs.Prelude.{◌≡◌, ℕ, Bool, true, false, ◌||◌, ◌==◌, if◌then◌else◌, List, [], ◌∷◌, ◌++◌, map, get_or}
 use Rattle.std.specs.Fmt.{signed_decimal}
 use Rattle.sql_lex.specs.declared.lexeme.LexKind.{LexKind}

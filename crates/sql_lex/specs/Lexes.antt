@@ -1,4 +1,4 @@
--- The lexemes of a text, and the byte that begins none.
+-- The language: the lexemes of a text, and the byte that begins none. Read Spelling first.
 use Rattle.std.specs.Prelude.{◌≡◌, ◌+◌, ℕ, true, false, List, [], ◌∷◌, ◌++◌, length, Result, Ok, Err}
 use Rattle.std.specs.List.{list_all}
 use Rattle.sql_lex.specs.declared.lexeme.LexKind.{LexKind}
@@ -33,10 +33,10 @@ abbrev pub IsBad : List ℕ → ℕ → Type 0
 IsBad bs bad = (xs : List Lexeme) × LexesTo (BadByte bad) 1 bs xs
 
 -- the answer is these lexemes or this place, unless memory ran out
-abbrev pub Gives : Result (List Lexeme) LexFault → Result (List Lexeme) ℕ → Type 0
-Gives (Ok list) r = r ≡ Ok list
-Gives (Err (BadChar k)) r = r ≡ Err k
-Gives (Err Memory) r = Unit {0}
+abbrev pub AnswersLexing : Result (List Lexeme) LexFault → Result (List Lexeme) ℕ → Type 0
+AnswersLexing (Ok list) r = r ≡ Ok list
+AnswersLexing (Err (BadChar k)) r = r ≡ Err k
+AnswersLexing (Err Memory) r = Unit {0}
 
 -- where the answer is a bad byte, P holds of its place
 abbrev pub IfBadChar : Result (List Lexeme) LexFault → (ℕ → Type 0) → Type 0

@@ -1,4 +1,4 @@
-pub mod Joined
+pub mod Spelling
 pub mod Lexes
 pub mod Scan
-pub mod Spelling
+pub mod Joined

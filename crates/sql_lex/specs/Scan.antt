@@ -1,19 +1,19 @@
--- How lexemes are read: the one at the front, and all of them from left to right.
-use Rattle.std.specs.Prelude.{ℕ, zero, suc, ◌+◌, ◌-◌, ◌*◌, ◌^◌, Bool, true, false, ◌==◌, nat_le, nat_lt, if◌then◌else◌, List, [], ◌∷◌, take, map, Option, Some, None, Result, Ok, Err, pos}
+-- The reader: the lexeme at the front, and all of them from left to right. Read Spelling first; that it reads what Lexes says is shown in proofs/Fronts and proofs/Scans.
+use Rattle.std.specs.Prelude.{ℕ, zero, suc, ◌+◌, ◌-◌, ◌*◌, Bool, true, false, ◌==◌, nat_le, nat_lt, if◌then◌else◌, List, [], ◌∷◌, take, map, Option, Some, None, Result, Ok, Err, pos}
 use Rattle.std.specs.List.{prefix_len}
 use Rattle.std.specs.Char.{is_ascii_digit, is_ascii_alphabetic, to_ascii_lowercase}
 use Rattle.dl_base.specs.Name.{is_name_byte}
 use Rattle.sql_lex.specs.declared.lexeme.LexKind.{LexKind}
 use Rattle.sql_lex.specs.declared.lexeme.LexKind.TheVariants.{Word, Number, Literal, Sign}
 use Rattle.sql_lex.specs.declared.lexeme.Lexeme.{Lexeme}
-use Rattle.sql_lex.specs.Spelling.{is_blank, is_literal_byte, begins}
+use Rattle.sql_lex.specs.Spelling.{is_blank, is_literal_byte, begins, most_word_bytes, number_bound}
 
 -- a lexeme and its length
 abbrev pub Front : Type 0
 Front = Option (LexKind × ℕ)
 
 abbrev pub word_front : List ℕ → Front
-word_front bs = let n = prefix_len is_name_byte bs in if nat_le n 64 then Some (Word (map to_ascii_lowercase (take n bs)), n) else None
+word_front bs = let n = prefix_len is_name_byte bs in if nat_le n most_word_bytes then Some (Word (map to_ascii_lowercase (take n bs)), n) else None
 
 -- the number that decimal digits say, behind digits of value v
 abbrev pub decimal_from : ℕ → List ℕ → ℕ
@@ -21,13 +21,13 @@ decimal_from v [] = v
 decimal_from v (d ∷ ds) = decimal_from (10 * v + (d - 48)) ds
 
 abbrev pub decimal_below : List ℕ → Option ℕ
-decimal_below ds = if nat_lt (decimal_from 0 ds) (2 ^ 63) then Some (decimal_from 0 ds) else None
+decimal_below ds = if nat_lt (decimal_from 0 ds) number_bound then Some (decimal_from 0 ds) else None
 
 abbrev pub number_front : List ℕ → Front
 number_front bs =
     let n = prefix_len is_ascii_digit bs in
     let v = decimal_from 0 (take n bs) in
-    if nat_lt v (2 ^ 63) then Some (Number (pos v), n) else None
+    if nat_lt v number_bound then Some (Number (pos v), n) else None
 
 -- one more byte of a literal
 abbrev pub with_byte : ℕ → Option (List ℕ × ℕ) → Option (List ℕ × ℕ)

@@ -1,4 +1,4 @@
--- What spells a lexeme.
+-- The language: what spells a lexeme. It needs nothing read first.
 use Rattle.std.specs.Prelude.{◌≡◌, ℕ, ◌^◌, ◌<◌, Bool, true, false, not, ◌&&◌, ◌||◌, ◌==◌, nat_le, if◌then◌else◌, List, [], ◌∷◌, ◌++◌, map, slice_get, Some, pos}
 use Rattle.std.specs.List.{list_all}
 use Rattle.std.specs.Char.{is_ascii_digit, to_ascii_lowercase}
@@ -33,10 +33,18 @@ abbrev pub begins : (ℕ → Bool) → List ℕ → Bool
 begins p [] = false
 begins p (b ∷ bs) = p b
 
+-- a word has as many bytes as a name at most
+abbrev pub most_word_bytes : ℕ
+most_word_bytes = 64
+
+-- a number is below it
+abbrev pub number_bound : ℕ
+number_bound = 2 ^ 63
+
 -- The bytes spell the lexeme. A word is a name in any case, a number is below 2 to the 63rd.
 abbrev pub Spells : LexKind → List ℕ → Type 0
 Spells (Word w) body = IsName body × (w ≡ map to_ascii_lowercase body)
-Spells (Number z) body = IsNumeral 10 body × (digits_value 10 body < 2 ^ 63) × (z ≡ pos (digits_value 10 body))
+Spells (Number z) body = IsNumeral 10 body × (digits_value 10 body < number_bound) × (z ≡ pos (digits_value 10 body))
 Spells (Literal t) body = (list_all is_literal_byte t ≡ true) × (body ≡ quoted t)
 Spells (Sign k) body = slice_get signs k ≡ Some body
 

@@ -3,7 +3,7 @@ ghost use Rattle.std.specs.Prelude.{◌≡◌, List, IfOk, ℕ, Ok, Err};
 ghost use Rattle.sql_lex.specs.declared.lexeme.Lexeme as placed;
 ghost use Rattle.sql_lex.specs.Spelling.{is_blank};
 ghost use Rattle.sql_lex.specs.Scan.{scan};
-ghost use Rattle.sql_lex.specs.Lexes.{Lexes, IsBad, Gives, IfBadChar};
+ghost use Rattle.sql_lex.specs.Lexes.{Lexes, IsBad, AnswersLexing, IfBadChar};
 
 use crate::front::front_lexeme;
 use crate::lexeme::{LexFault, Lexeme};
@@ -19,7 +19,7 @@ fn is_blank(b: u8) -> bool
 // The lexemes from left to right.
 #[tactic(auto, using(crate::proofs::Steps::blank_step, crate::proofs::Steps::lexeme_step, crate::proofs::Steps::bad_step, crate::proofs::Steps::done))]
 fn scan(alloc: Global, text: &[u8]) -> Result<List<Lexeme>, LexFault>
-    ensures { Gives result (scan 0 1 text.now) }
+    ensures { AnswersLexing result (scan 0 1 text.now) }
 {
     let mut list = List::empty(alloc);
     let mut at = 0;
@@ -46,11 +46,11 @@ pub fn lex(alloc: Global, text: &[u8]) -> Result<List<Lexeme>, LexFault>
     // The text is these lexemes, each the longest where it begins, with blanks round them.
     ensures found { IfOk result (λ list. Lexes 1 text.now list) }
     // If the text is some lexemes, it gives those, unless memory runs out.
-    ensures only { (xs : List placed.Lexeme) → Lexes 1 text.now xs → Gives result (Ok xs) }
+    ensures only { (xs : List placed.Lexeme) → Lexes 1 text.now xs → AnswersLexing result (Ok xs) }
     // The place is that of the first byte that is no blank and begins no lexeme, behind lexemes and blanks.
     ensures bad { IfBadChar result (λ k. IsBad text.now k) }
     // If there is such a place, it is told, unless memory runs out.
-    ensures bad_only { (k : ℕ) → IsBad text.now k → Gives result (Err k) }
+    ensures bad_only { (k : ℕ) → IsBad text.now k → AnswersLexing result (Err k) }
 {
     scan(alloc, text)
 }

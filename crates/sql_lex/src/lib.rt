@@ -5,8 +5,6 @@ mod front;
 mod laws;
 mod lexeme;
 mod lexer;
-#[cfg(test)]
-mod tests;
 
 pub use laws::{joined_again, longest, one_answer, written_again};
 pub use lexeme::{LexFault, LexKind, Lexeme};

@@ -1,7 +1,7 @@
--- The machine's values as the grammar sees them.
+-- The reader: the code's values as the machine's. Read Machine of sql_grammar first.
 use Rattle.std.specs.Prelude.{ℕ, Bool, true, false, List, [], ◌∷◌}
 use Rattle.dl_base.specs.declared.statement.Expr.{Expr}
-use Rattle.sql_grammar.specs.declared.mark.Mark.{Mark}
+use Rattle.sql_grammar.specs.declared.symbol.Symbol.{Symbol}
 use Rattle.sql_grammar.specs.declared.terminal.Terminal.TheVariants.{Fixed}
 use Rattle.sql_grammar.specs.declared.frame.Frame.{Frame}
 use Rattle.sql_grammar.specs.Cues.{Cue, an_operator, a_not, an_is, a_null, an_open, a_close, a_comma, a_dot, another}
@@ -13,7 +13,7 @@ use Rattle.sql_precedence.specs.declared.machine.Reading.TheVariants as r
 use Rattle.sql_precedence.specs.declared.machine.Step.{Step}
 use Rattle.sql_precedence.specs.declared.machine.Step.TheVariants as s
 
-abbrev pub cue_in : Mark → Role → Cue
+abbrev pub cue_in : Symbol → Role → Cue
 cue_in m (role.Operator o) = an_operator o
 cue_in m role.Not = a_not
 cue_in m role.Is = an_is

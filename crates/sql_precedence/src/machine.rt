@@ -12,7 +12,7 @@ ghost use Rattle.sql_precedence.specs.Views.{stack_of, state_of, move_of, cue_in
 use crate::role::{Role, left, level, right, role_of};
 use crate::word::same_bytes;
 use dl_base::{Boxed, Expr, Fold, Memory, Name, Op, Part, Ref};
-use sql_grammar::{Callee, Frame, Mark, Opening, Terminal};
+use sql_grammar::{Callee, Frame, Opening, Symbol, Terminal};
 use std::alloc::Global;
 
 /// Operators and calls of one expression.
@@ -175,12 +175,12 @@ fn need(frames: &[Frame]) -> u8
     }
 }
 
-// A mark where an operand is due.
-fn marked(mut stack: Stack, mark: Mark) -> Result<Step, Memory>
+// A symbol where an operand is due.
+fn operand_symbol(mut stack: Stack, symbol: Symbol) -> Result<Step, Memory>
     ensures { IfOk result (λ s. move_of s
-        ≡ move (due (stack_of stack.frames.items) stack.operators stack.parentheses) (cue_of mark)) }
+        ≡ move (due (stack_of stack.frames.items) stack.operators stack.parentheses) (cue_of symbol)) }
 {
-    match role_of(mark) {
+    match role_of(symbol) {
         Role::Operator(Op::Sub) if stack.operators < MAX_OPERATORS => {
             stack.operators += 1;
             push(stack, Frame::Sign)
@@ -204,7 +204,7 @@ fn operand(stack: Stack, terminal: &Terminal) -> Result<Step, Memory>
         ≡ move (due (stack_of stack.frames.items) stack.operators stack.parentheses) (cue terminal.now)) }
 {
     match terminal {
-        Terminal::Fixed(mark) => marked(stack, *mark),
+        Terminal::Fixed(symbol) => operand_symbol(stack, *symbol),
         Terminal::Number(n) => Ok(Step::Go(Reading::After(stack, Expr::Number(*n), TIGHTEST))),
         Terminal::Literal(text) => {
             let text = text.copy()?;
@@ -330,7 +330,7 @@ fn behind(
         ≡ move_after (stack_of stack.frames.items) last bound stack.operators stack.parentheses (cue terminal.now)) }
 {
     match terminal {
-        Terminal::Fixed(mark) => match role_of(*mark) {
+        Terminal::Fixed(symbol) => match role_of(*symbol) {
             Role::Operator(op) => operator(alloc, stack, last, bound, op),
             Role::Is => ask(alloc, stack, last, bound),
             Role::Close => close(alloc, stack, last, bound),
@@ -420,7 +420,7 @@ fn named(alloc: Global, stack: Stack, name: Name, terminal: &Terminal) -> Result
         ≡ move (machine.named (stack_of stack.frames.items) name stack.operators stack.parentheses) (cue terminal.now)) }
 {
     match terminal {
-        Terminal::Fixed(mark) => match role_of(*mark) {
+        Terminal::Fixed(symbol) => match role_of(*symbol) {
             Role::Open => call(alloc, stack, name),
             Role::Dot => Ok(Step::Go(Reading::Dotted(stack, name))),
             Role::Operator(_)
@@ -449,7 +449,7 @@ fn answer(
         ≡ move (asked holds (stack_of stack.frames.items) last stack.operators stack.parentheses) (cue terminal.now)) }
 {
     match terminal {
-        Terminal::Fixed(mark) => match role_of(*mark) {
+        Terminal::Fixed(symbol) => match role_of(*symbol) {
             Role::Null => {
                 let value = Expr::IsNull(Boxed::new(alloc, last)?, holds);
                 Ok(Step::Go(Reading::After(stack, value, 3)))
@@ -469,7 +469,7 @@ fn count(stack: Stack, star: bool, terminal: &Terminal) -> Result<Step, Memory>
         ≡ move (counting star (stack_of stack.frames.items) stack.operators stack.parentheses) (cue terminal.now)) }
 {
     match terminal {
-        Terminal::Fixed(mark) => match role_of(*mark) {
+        Terminal::Fixed(symbol) => match role_of(*symbol) {
             Role::Operator(Op::Mul) if !star => Ok(Step::Go(Reading::StarRead(stack))),
             Role::Close if star => Ok(Step::Go(Reading::After(stack, Expr::CountAll, TIGHTEST))),
             _ => Ok(Step::Refuse),
@@ -486,7 +486,7 @@ fn dotted(stack: Stack, table: Name, terminal: &Terminal) -> Result<Step, Memory
         ≡ move (machine.dotted (stack_of stack.frames.items) table stack.operators stack.parentheses) (cue terminal.now)) }
 {
     match terminal {
-        Terminal::Fixed(mark) => match role_of(*mark) {
+        Terminal::Fixed(symbol) => match role_of(*symbol) {
             _ => Ok(Step::Refuse),
         },
         Terminal::Number(_) => Ok(Step::Refuse),

@@ -1,8 +1,8 @@
 //! The expression at a place.
 
 ghost use Rattle.std.specs.Prelude.{◌≡◌};
-ghost use Rattle.sql_grammar.specs.Lang.{expression_at};
-ghost use Rattle.sql_precedence.specs.Results.{Gives};
+ghost use Rattle.sql_grammar.specs.Readers.{expression_at};
+ghost use Rattle.sql_precedence.specs.Results.{AnswersReading};
 
 use crate::machine::{Reading, Stack, Step, end, take};
 use crate::refused::Refused;
@@ -16,7 +16,7 @@ pub fn expression(
     terminals: &[Terminal],
     from: usize,
 ) -> Result<(Expr, usize), Refused>
-    ensures { Gives result (expression_at terminals.now from) }
+    ensures { AnswersReading result (expression_at terminals.now from) }
 {
     let mut reading = Reading::Due(Stack {
         frames: Vec::new(alloc),

@@ -1,13 +1,13 @@
-// What a mark is to an expression.
+// What a symbol is to an expression.
 ghost use Rattle.std.specs.Prelude.{◌≡◌};
 ghost use Rattle.sql_grammar.specs.Cues.{cue_of};
 ghost use Rattle.sql_grammar.specs.Levels.{level_of, left_of, right_of};
 ghost use Rattle.sql_precedence.specs.Views.{cue_in};
 
 use dl_base::Op;
-use sql_grammar::Mark;
+use sql_grammar::Symbol;
 
-/// What a mark is to an expression.
+/// What a symbol is to an expression.
 #[derive(Clone, Copy, Debug, PartialEq, Eq)]
 pub enum Role {
     Operator(Op),
@@ -22,59 +22,59 @@ pub enum Role {
     Other,
 }
 
-pub fn role_of(mark: Mark) -> Role
-    ensures { cue_of mark ≡ cue_in mark result }
+pub fn role_of(symbol: Symbol) -> Role
+    ensures { cue_of symbol ≡ cue_in symbol result }
 {
-    match mark {
-        Mark::Or => Role::Operator(Op::Or),
-        Mark::And => Role::Operator(Op::And),
-        Mark::Equal => Role::Operator(Op::Eq),
-        Mark::Unequal => Role::Operator(Op::Ne),
-        Mark::Less => Role::Operator(Op::Lt),
-        Mark::LessEqual => Role::Operator(Op::Le),
-        Mark::Greater => Role::Operator(Op::Gt),
-        Mark::GreaterEqual => Role::Operator(Op::Ge),
-        Mark::Plus => Role::Operator(Op::Add),
-        Mark::Minus => Role::Operator(Op::Sub),
-        Mark::Star => Role::Operator(Op::Mul),
-        Mark::Slash => Role::Operator(Op::Div),
-        Mark::Not => Role::Not,
-        Mark::Is => Role::Is,
-        Mark::Null => Role::Null,
-        Mark::Open => Role::Open,
-        Mark::Close => Role::Close,
-        Mark::Comma => Role::Comma,
-        Mark::Dot => Role::Dot,
-        Mark::As
-        | Mark::Asc
-        | Mark::Begin
-        | Mark::Bigint
-        | Mark::By
-        | Mark::Commit
-        | Mark::Create
-        | Mark::Datalink => Role::Other,
-        Mark::Delete
-        | Mark::Desc
-        | Mark::Drop
-        | Mark::From
-        | Mark::Group
-        | Mark::Inner
-        | Mark::Insert => Role::Other,
-        Mark::Integer
-        | Mark::Into
-        | Mark::Join
-        | Mark::Key
-        | Mark::On
-        | Mark::Order
-        | Mark::Primary => Role::Other,
-        Mark::Rollback
-        | Mark::Select
-        | Mark::Set
-        | Mark::Table
-        | Mark::Update
-        | Mark::Values
-        | Mark::Varchar => Role::Other,
-        Mark::Where | Mark::Semicolon => Role::Other,
+    match symbol {
+        Symbol::Or => Role::Operator(Op::Or),
+        Symbol::And => Role::Operator(Op::And),
+        Symbol::Equal => Role::Operator(Op::Eq),
+        Symbol::Unequal => Role::Operator(Op::Ne),
+        Symbol::Less => Role::Operator(Op::Lt),
+        Symbol::LessEqual => Role::Operator(Op::Le),
+        Symbol::Greater => Role::Operator(Op::Gt),
+        Symbol::GreaterEqual => Role::Operator(Op::Ge),
+        Symbol::Plus => Role::Operator(Op::Add),
+        Symbol::Minus => Role::Operator(Op::Sub),
+        Symbol::Star => Role::Operator(Op::Mul),
+        Symbol::Slash => Role::Operator(Op::Div),
+        Symbol::Not => Role::Not,
+        Symbol::Is => Role::Is,
+        Symbol::Null => Role::Null,
+        Symbol::Open => Role::Open,
+        Symbol::Close => Role::Close,
+        Symbol::Comma => Role::Comma,
+        Symbol::Dot => Role::Dot,
+        Symbol::As
+        | Symbol::Asc
+        | Symbol::Begin
+        | Symbol::Bigint
+        | Symbol::By
+        | Symbol::Commit
+        | Symbol::Create
+        | Symbol::Datalink => Role::Other,
+        Symbol::Delete
+        | Symbol::Desc
+        | Symbol::Drop
+        | Symbol::From
+        | Symbol::Group
+        | Symbol::Inner
+        | Symbol::Insert => Role::Other,
+        Symbol::Integer
+        | Symbol::Into
+        | Symbol::Join
+        | Symbol::Key
+        | Symbol::On
+        | Symbol::Order
+        | Symbol::Primary => Role::Other,
+        Symbol::Rollback
+        | Symbol::Select
+        | Symbol::Set
+        | Symbol::Table
+        | Symbol::Update
+        | Symbol::Values
+        | Symbol::Varchar => Role::Other,
+        Symbol::Where | Symbol::Semicolon => Role::Other,
     }
 }
 

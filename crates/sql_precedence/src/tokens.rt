@@ -1,34 +1,34 @@
 // Single terminals at a place.
 ghost use Rattle.std.specs.Prelude.{◌≡◌, ◌<◌, IsTrue, length, slice_get};
 ghost use Rattle.sql_grammar.specs.Words.{bytes_of};
-ghost use Rattle.sql_grammar.specs.Lang.{is_token, token_at, one_at, maybe_one_at};
+ghost use Rattle.sql_grammar.specs.Readers.{is_token, token_at, one_at, maybe_one_at};
 ghost use Rattle.sql_grammar.specs.declared.token.Token.TheVariants as token;
 ghost use Rattle.sql_grammar.specs.Statements.{name_of, number_of};
 ghost use Rattle.sql_grammar.specs.Reading.{name_at};
-ghost use Rattle.sql_precedence.specs.Results.{Gives};
+ghost use Rattle.sql_precedence.specs.Results.{AnswersReading};
 
 use crate::refused::Refused;
 use crate::word::same_bytes;
 use dl_base::Name;
-use sql_grammar::{LinkWord, Mark, Terminal};
+use sql_grammar::{LinkWord, Symbol, Terminal};
 
-/// Whether the mark stands at the place.
-pub fn stands(terminals: &[Terminal], at: usize, mark: Mark) -> bool
-    ensures stands { result ≡ is_token (token.Mark mark) (slice_get terminals.now at) }
+/// Whether the symbol stands at the place.
+pub fn stands(terminals: &[Terminal], at: usize, symbol: Symbol) -> bool
+    ensures stands { result ≡ is_token (token.Symbol symbol) (slice_get terminals.now at) }
     ensures within { IsTrue result → at < length terminals.now }
 {
     match terminals.get(at) {
-        Some(Terminal::Fixed(other)) => *other == mark,
+        Some(Terminal::Fixed(other)) => *other == symbol,
         _ => false,
     }
 }
 
-/// The place behind a mark that has to stand there.
-#[tactic(auto, unfolding(sql_grammar::specs::Lang::token_at))]
-pub fn expect(terminals: &[Terminal], at: usize, mark: Mark) -> Result<usize, Refused>
-    ensures { Gives result (token_at (token.Mark mark) terminals.now at) }
+/// The place behind a symbol that has to stand there.
+#[tactic(auto, unfolding(sql_grammar::specs::Readers::token_at))]
+pub fn expect(terminals: &[Terminal], at: usize, symbol: Symbol) -> Result<usize, Refused>
+    ensures { AnswersReading result (token_at (token.Symbol symbol) terminals.now at) }
 {
-    if stands(terminals, at, mark) {
+    if stands(terminals, at, symbol) {
         Ok(at + 1)
     } else {
         Err(Refused::Syntax(at))
@@ -77,9 +77,9 @@ pub fn says(terminals: &[Terminal], at: usize, word: LinkWord) -> bool
 }
 
 /// The place behind a word of link options that has to stand there.
-#[tactic(auto, unfolding(sql_grammar::specs::Lang::token_at))]
+#[tactic(auto, unfolding(sql_grammar::specs::Readers::token_at))]
 pub fn expect_word(terminals: &[Terminal], at: usize, word: LinkWord) -> Result<usize, Refused>
-    ensures { Gives result (token_at (token.Word word) terminals.now at) }
+    ensures { AnswersReading result (token_at (token.Word word) terminals.now at) }
 {
     if says(terminals, at, word) {
         Ok(at + 1)
@@ -90,7 +90,7 @@ pub fn expect_word(terminals: &[Terminal], at: usize, word: LinkWord) -> Result<
 
 /// The name at the place.
 pub fn name(terminals: &[Terminal], at: usize) -> Result<(Name, usize), Refused>
-    ensures { Gives result (name_at terminals.now at) }
+    ensures { AnswersReading result (name_at terminals.now at) }
 {
     match terminals.get(at) {
         Some(Terminal::Word(name)) => Ok((name.copy()?, at + 1)),
@@ -100,7 +100,7 @@ pub fn name(terminals: &[Terminal], at: usize) -> Result<(Name, usize), Refused>
 
 /// The name at the place, where one stands there.
 pub fn maybe_name(terminals: &[Terminal], at: usize) -> Result<(Option<Name>, usize), Refused>
-    ensures { Gives result (maybe_one_at name_of terminals.now at) }
+    ensures { AnswersReading result (maybe_one_at name_of terminals.now at) }
 {
     match terminals.get(at) {
         Some(Terminal::Word(name)) => Ok((Some(name.copy()?), at + 1)),
@@ -110,7 +110,7 @@ pub fn maybe_name(terminals: &[Terminal], at: usize) -> Result<(Option<Name>, us
 
 /// The number at the place.
 pub fn number(terminals: &[Terminal], at: usize) -> Result<(i64, usize), Refused>
-    ensures { Gives result (one_at number_of terminals.now at) }
+    ensures { AnswersReading result (one_at number_of terminals.now at) }
 {
     match terminals.get(at) {
         Some(Terminal::Number(n)) => Ok((*n, at + 1)),

@@ -1,6 +1,6 @@
 // Words byte by byte.
 ghost use Rattle.std.specs.Prelude.{◌≡◌};
-ghost use Rattle.sql_grammar.specs.Machine.{same_bytes};
+ghost use Rattle.sql_grammar.specs.Words.{same_bytes};
 
 /// Whether they are the same bytes.
 pub fn same_bytes(a: &[u8], b: &[u8]) -> bool

@@ -4,13 +4,13 @@ use Rattle.std.proofs.lemmas.List.{take_more}
 use Rattle.sql_lex.specs.Joined.{is_dot}
 use Rattle.sql_lex.specs.Spelling.{doubled}
 use Rattle.std.proofs.Common.{eqb}
-use Rattle.sql_grammar.specs.declared.ink.Ink.{Ink}
-use Rattle.sql_print.specs.Writing.{ink_kind, ink_bytes, joined_inks, gap}
+use Rattle.sql_grammar.specs.declared.print_token.PrintToken.{PrintToken}
+use Rattle.sql_print.specs.Writing.{print_token_kind, print_token_bytes, joined_tokens, gap}
 
 -- whether no blank follows
-abbrev pub tight_after : List Ink → Bool
+abbrev pub tight_after : List PrintToken → Bool
 tight_after [] = true
-tight_after (x ∷ []) = is_dot (ink_kind x)
+tight_after (x ∷ []) = is_dot (print_token_kind x)
 tight_after (x ∷ y ∷ ys) = tight_after (y ∷ ys)
 
 append_join : (c : Bool) (a b rest : List ℕ) → cond c (a ++ b) (a ++ 32 ∷ b) ++ rest ≡ cond c (a ++ (b ++ rest)) (a ++ 32 ∷ (b ++ rest))
@@ -21,15 +21,15 @@ two : (c : Bool) (a b : List ℕ) → cond c (a ++ b) (a ++ 32 ∷ b) ≡ a ++ (
 two true a b = refl
 two false a b = refl
 
-pub joined_one : (xs : List Ink) (y : Ink) → joined_inks (xs ++ y ∷ []) ≡ joined_inks xs ++ (gap (tight_after xs || is_dot (ink_kind y)) ++ ink_bytes y)
+pub joined_one : (xs : List PrintToken) (y : PrintToken) → joined_tokens (xs ++ y ∷ []) ≡ joined_tokens xs ++ (gap (tight_after xs || is_dot (print_token_kind y)) ++ print_token_bytes y)
 joined_one [] y = refl
-joined_one (x ∷ []) y = two (is_dot (ink_kind x) || is_dot (ink_kind y)) (ink_bytes x) (ink_bytes y)
+joined_one (x ∷ []) y = two (is_dot (print_token_kind x) || is_dot (print_token_kind y)) (print_token_bytes x) (print_token_bytes y)
 joined_one (x ∷ z ∷ zs) y =
-    let c = is_dot (ink_kind x) || is_dot (ink_kind z) in
-    let rest = gap (tight_after (z ∷ zs) || is_dot (ink_kind y)) ++ ink_bytes y in
-    ap (λ (bs : List ℕ). cond c (ink_bytes x ++ bs) (ink_bytes x ++ 32 ∷ bs)) (joined_one (z ∷ zs) y) ∙ sym (append_join c (ink_bytes x) (joined_inks (z ∷ zs)) rest)
+    let c = is_dot (print_token_kind x) || is_dot (print_token_kind z) in
+    let rest = gap (tight_after (z ∷ zs) || is_dot (print_token_kind y)) ++ print_token_bytes y in
+    ap (λ (bs : List ℕ). cond c (print_token_bytes x ++ bs) (print_token_bytes x ++ 32 ∷ bs)) (joined_one (z ∷ zs) y) ∙ sym (append_join c (print_token_bytes x) (joined_tokens (z ∷ zs)) rest)
 
-pub tight_one : (xs : List Ink) (y : Ink) → tight_after (xs ++ y ∷ []) ≡ is_dot (ink_kind y)
+pub tight_one : (xs : List PrintToken) (y : PrintToken) → tight_after (xs ++ y ∷ []) ≡ is_dot (print_token_kind y)
 tight_one [] y = refl
 tight_one (x ∷ []) y = refl
 tight_one (x ∷ z ∷ zs) y = tight_one (z ∷ zs) y
@@ -50,10 +50,10 @@ pub doubled_step : (xs : List ℕ) (i : ℕ) (d : ℕ) → i < length xs → dou
 doubled_step xs i d lt = ap doubled (take_more xs i d lt) ∙ doubled_one (take i xs) (get_or xs i d)
 
 -- one piece more of what is joined
-pub join_step : (xs : List Ink) (i : ℕ) (x : Ink) (out out' out'' : List ℕ) (tight dot : Bool) → i < length xs → x ≡ get_or xs i x → out ≡ joined_inks (take i xs) → tight ≡ tight_after (take i xs) → dot ≡ is_dot (ink_kind x) → out' ≡ out ++ gap (tight || dot) → out'' ≡ out' ++ ink_bytes x
-    → (out'' ≡ joined_inks (take (i + 1) xs)) × (dot ≡ tight_after (take (i + 1) xs))
+pub join_step : (xs : List PrintToken) (i : ℕ) (x : PrintToken) (out out' out'' : List ℕ) (tight dot : Bool) → i < length xs → x ≡ get_or xs i x → out ≡ joined_tokens (take i xs) → tight ≡ tight_after (take i xs) → dot ≡ is_dot (print_token_kind x) → out' ≡ out ++ gap (tight || dot) → out'' ≡ out' ++ print_token_bytes x
+    → (out'' ≡ joined_tokens (take (i + 1) xs)) × (dot ≡ tight_after (take (i + 1) xs))
 join_step xs i x out out' out'' tight dot lt is e t d e' e'' =
-    let more : take (i + 1) xs ≡ take i xs ++ x ∷ [] = take_more xs i x lt ∙ ap (λ (y : Ink). take i xs ++ y ∷ []) (sym is) in (
-      e'' ∙ ap (λ (y : List ℕ). y ++ ink_bytes x) (e' ∙ (λ k. e k ++ gap (t k || d k))) ∙ append_assoc (joined_inks (take i xs)) (gap (tight_after (take i xs) || is_dot (ink_kind x))) (ink_bytes x) ∙ sym (ap joined_inks more ∙ joined_one (take i xs) x),
+    let more : take (i + 1) xs ≡ take i xs ++ x ∷ [] = take_more xs i x lt ∙ ap (λ (y : PrintToken). take i xs ++ y ∷ []) (sym is) in (
+      e'' ∙ ap (λ (y : List ℕ). y ++ print_token_bytes x) (e' ∙ (λ k. e k ++ gap (t k || d k))) ∙ append_assoc (joined_tokens (take i xs)) (gap (tight_after (take i xs) || is_dot (print_token_kind x))) (print_token_bytes x) ∙ sym (ap joined_tokens more ∙ joined_one (take i xs) x),
       d ∙ sym (ap tight_after more ∙ tight_one (take i xs) x),
     )

@@ -11,22 +11,22 @@ use Rattle.sql_lex.specs.Spelling.{Spells}
 use Rattle.sql_lex.specs.Lexes.{Lexes}
 use Rattle.sql_lex.specs.Joined as j
 use Rattle.sql_lex.specs.Joined.{IsSpelled, written, Piece, joined, ArePieces, LexesAs}
-use Rattle.sql_grammar.specs.declared.mark.Mark.{Mark}
-use Rattle.sql_grammar.specs.declared.mark.Mark.TheVariants as mark
-use Rattle.sql_grammar.specs.declared.ink.Ink.{Ink}
-use Rattle.sql_grammar.specs.declared.ink.Ink.TheVariants as ink
+use Rattle.sql_grammar.specs.declared.symbol.Symbol.{Symbol}
+use Rattle.sql_grammar.specs.declared.symbol.Symbol.TheVariants as symbol
+use Rattle.sql_grammar.specs.declared.print_token.PrintToken.{PrintToken}
+use Rattle.sql_grammar.specs.declared.print_token.PrintToken.TheVariants as print_token
 use Rattle.sql_grammar.specs.declared.terminal.Terminal.{Terminal}
-use Rattle.sql_grammar.specs.declared.terminal.Terminal.TheVariants.{Fixed, Word}
+use Rattle.sql_grammar.specs.declared.terminal.Terminal.TheVariants.{Fixed}
 use Rattle.sql_grammar.specs.Words.{bytes_of}
-use Rattle.sql_grammar.specs.Reserved.{spelled}
-use Rattle.sql_grammar.specs.Proper.{reserved_mark, word_terminal, terminal, IsProper, AreProper}
-use Rattle.sql_grammar.specs.Inks.{function_name, said_by, inked}
+use Rattle.sql_grammar.specs.PrintTokens.{spelled}
+use Rattle.sql_grammar.specs.Proper.{reserved_symbol, word_terminal, terminal, IsProper, AreProper}
+use Rattle.sql_grammar.specs.PrintTokens.{function_name, print_terminal, print_terminals}
 use Rattle.sql_grammar.specs.Dots.{is_dot, is_word, Dotted}
 use Rattle.sql_grammar.specs.Printing.{printed}
 use Rattle.sql_grammar.specs.Statements.{Statement}
 use Rattle.sql_grammar.proofs.Reprinted.{prints_statement}
 use Rattle.sql_grammar.specs.Meaning.{terminals, Means}
-use Rattle.sql_print.specs.Writing.{mark_kind, ink_kind, ink_bytes, piece_of, text_of}
+use Rattle.sql_print.specs.Writing.{symbol_kind, print_token_kind, print_token_bytes, piece_of, text_of}
 
 -- the laws of the lexer
 abbrev pub Written : Type 0
@@ -41,227 +41,227 @@ Spelled = (xs : List Lexeme) (at : ℕ) (text : List ℕ) → Lexes at text xs �
 abbrev pub Joined : Type 0
 Joined = (xs : List Piece) (at : ℕ) → ArePieces xs → LexesAs at (joined xs) (map (λ x. x.0) xs)
 
--- ---- each mark
+-- ---- each symbol
 
-mark_terminal : (m : Mark) → terminal (mark_kind m) ≡ Fixed m
-unfolding reserved_mark
-mark_terminal mark.And = refl
-mark_terminal mark.As = refl
-mark_terminal mark.Asc = refl
-mark_terminal mark.Begin = refl
-mark_terminal mark.Bigint = refl
-mark_terminal mark.By = refl
-mark_terminal mark.Commit = refl
-mark_terminal mark.Create = refl
-mark_terminal mark.Datalink = refl
-mark_terminal mark.Delete = refl
-mark_terminal mark.Desc = refl
-mark_terminal mark.Drop = refl
-mark_terminal mark.From = refl
-mark_terminal mark.Group = refl
-mark_terminal mark.Inner = refl
-mark_terminal mark.Insert = refl
-mark_terminal mark.Integer = refl
-mark_terminal mark.Into = refl
-mark_terminal mark.Is = refl
-mark_terminal mark.Join = refl
-mark_terminal mark.Key = refl
-mark_terminal mark.Not = refl
-mark_terminal mark.Null = refl
-mark_terminal mark.On = refl
-mark_terminal mark.Or = refl
-mark_terminal mark.Order = refl
-mark_terminal mark.Primary = refl
-mark_terminal mark.Rollback = refl
-mark_terminal mark.Select = refl
-mark_terminal mark.Set = refl
-mark_terminal mark.Table = refl
-mark_terminal mark.Update = refl
-mark_terminal mark.Values = refl
-mark_terminal mark.Varchar = refl
-mark_terminal mark.Where = refl
-mark_terminal mark.Open = refl
-mark_terminal mark.Close = refl
-mark_terminal mark.Comma = refl
-mark_terminal mark.Dot = refl
-mark_terminal mark.Semicolon = refl
-mark_terminal mark.Star = refl
-mark_terminal mark.Plus = refl
-mark_terminal mark.Minus = refl
-mark_terminal mark.Slash = refl
-mark_terminal mark.Equal = refl
-mark_terminal mark.Unequal = refl
-mark_terminal mark.Less = refl
-mark_terminal mark.LessEqual = refl
-mark_terminal mark.Greater = refl
-mark_terminal mark.GreaterEqual = refl
+symbol_terminal : (m : Symbol) → terminal (symbol_kind m) ≡ Fixed m
+unfolding reserved_symbol
+symbol_terminal symbol.And = refl
+symbol_terminal symbol.As = refl
+symbol_terminal symbol.Asc = refl
+symbol_terminal symbol.Begin = refl
+symbol_terminal symbol.Bigint = refl
+symbol_terminal symbol.By = refl
+symbol_terminal symbol.Commit = refl
+symbol_terminal symbol.Create = refl
+symbol_terminal symbol.Datalink = refl
+symbol_terminal symbol.Delete = refl
+symbol_terminal symbol.Desc = refl
+symbol_terminal symbol.Drop = refl
+symbol_terminal symbol.From = refl
+symbol_terminal symbol.Group = refl
+symbol_terminal symbol.Inner = refl
+symbol_terminal symbol.Insert = refl
+symbol_terminal symbol.Integer = refl
+symbol_terminal symbol.Into = refl
+symbol_terminal symbol.Is = refl
+symbol_terminal symbol.Join = refl
+symbol_terminal symbol.Key = refl
+symbol_terminal symbol.Not = refl
+symbol_terminal symbol.Null = refl
+symbol_terminal symbol.On = refl
+symbol_terminal symbol.Or = refl
+symbol_terminal symbol.Order = refl
+symbol_terminal symbol.Primary = refl
+symbol_terminal symbol.Rollback = refl
+symbol_terminal symbol.Select = refl
+symbol_terminal symbol.Set = refl
+symbol_terminal symbol.Table = refl
+symbol_terminal symbol.Update = refl
+symbol_terminal symbol.Values = refl
+symbol_terminal symbol.Varchar = refl
+symbol_terminal symbol.Where = refl
+symbol_terminal symbol.Open = refl
+symbol_terminal symbol.Close = refl
+symbol_terminal symbol.Comma = refl
+symbol_terminal symbol.Dot = refl
+symbol_terminal symbol.Semicolon = refl
+symbol_terminal symbol.Star = refl
+symbol_terminal symbol.Plus = refl
+symbol_terminal symbol.Minus = refl
+symbol_terminal symbol.Slash = refl
+symbol_terminal symbol.Equal = refl
+symbol_terminal symbol.Unequal = refl
+symbol_terminal symbol.Less = refl
+symbol_terminal symbol.LessEqual = refl
+symbol_terminal symbol.Greater = refl
+symbol_terminal symbol.GreaterEqual = refl
 
-mark_spelled : (m : Mark) → Spells (mark_kind m) (spelled m)
+symbol_spelled : (m : Symbol) → Spells (symbol_kind m) (spelled m)
 unfolding name_test
-mark_spelled mark.And = (refl, refl)
-mark_spelled mark.As = (refl, refl)
-mark_spelled mark.Asc = (refl, refl)
-mark_spelled mark.Begin = (refl, refl)
-mark_spelled mark.Bigint = (refl, refl)
-mark_spelled mark.By = (refl, refl)
-mark_spelled mark.Commit = (refl, refl)
-mark_spelled mark.Create = (refl, refl)
-mark_spelled mark.Datalink = (refl, refl)
-mark_spelled mark.Delete = (refl, refl)
-mark_spelled mark.Desc = (refl, refl)
-mark_spelled mark.Drop = (refl, refl)
-mark_spelled mark.From = (refl, refl)
-mark_spelled mark.Group = (refl, refl)
-mark_spelled mark.Inner = (refl, refl)
-mark_spelled mark.Insert = (refl, refl)
-mark_spelled mark.Integer = (refl, refl)
-mark_spelled mark.Into = (refl, refl)
-mark_spelled mark.Is = (refl, refl)
-mark_spelled mark.Join = (refl, refl)
-mark_spelled mark.Key = (refl, refl)
-mark_spelled mark.Not = (refl, refl)
-mark_spelled mark.Null = (refl, refl)
-mark_spelled mark.On = (refl, refl)
-mark_spelled mark.Or = (refl, refl)
-mark_spelled mark.Order = (refl, refl)
-mark_spelled mark.Primary = (refl, refl)
-mark_spelled mark.Rollback = (refl, refl)
-mark_spelled mark.Select = (refl, refl)
-mark_spelled mark.Set = (refl, refl)
-mark_spelled mark.Table = (refl, refl)
-mark_spelled mark.Update = (refl, refl)
-mark_spelled mark.Values = (refl, refl)
-mark_spelled mark.Varchar = (refl, refl)
-mark_spelled mark.Where = (refl, refl)
-mark_spelled mark.Open = refl
-mark_spelled mark.Close = refl
-mark_spelled mark.Comma = refl
-mark_spelled mark.Dot = refl
-mark_spelled mark.Semicolon = refl
-mark_spelled mark.Star = refl
-mark_spelled mark.Plus = refl
-mark_spelled mark.Minus = refl
-mark_spelled mark.Slash = refl
-mark_spelled mark.Equal = refl
-mark_spelled mark.Unequal = refl
-mark_spelled mark.Less = refl
-mark_spelled mark.LessEqual = refl
-mark_spelled mark.Greater = refl
-mark_spelled mark.GreaterEqual = refl
+symbol_spelled symbol.And = (refl, refl)
+symbol_spelled symbol.As = (refl, refl)
+symbol_spelled symbol.Asc = (refl, refl)
+symbol_spelled symbol.Begin = (refl, refl)
+symbol_spelled symbol.Bigint = (refl, refl)
+symbol_spelled symbol.By = (refl, refl)
+symbol_spelled symbol.Commit = (refl, refl)
+symbol_spelled symbol.Create = (refl, refl)
+symbol_spelled symbol.Datalink = (refl, refl)
+symbol_spelled symbol.Delete = (refl, refl)
+symbol_spelled symbol.Desc = (refl, refl)
+symbol_spelled symbol.Drop = (refl, refl)
+symbol_spelled symbol.From = (refl, refl)
+symbol_spelled symbol.Group = (refl, refl)
+symbol_spelled symbol.Inner = (refl, refl)
+symbol_spelled symbol.Insert = (refl, refl)
+symbol_spelled symbol.Integer = (refl, refl)
+symbol_spelled symbol.Into = (refl, refl)
+symbol_spelled symbol.Is = (refl, refl)
+symbol_spelled symbol.Join = (refl, refl)
+symbol_spelled symbol.Key = (refl, refl)
+symbol_spelled symbol.Not = (refl, refl)
+symbol_spelled symbol.Null = (refl, refl)
+symbol_spelled symbol.On = (refl, refl)
+symbol_spelled symbol.Or = (refl, refl)
+symbol_spelled symbol.Order = (refl, refl)
+symbol_spelled symbol.Primary = (refl, refl)
+symbol_spelled symbol.Rollback = (refl, refl)
+symbol_spelled symbol.Select = (refl, refl)
+symbol_spelled symbol.Set = (refl, refl)
+symbol_spelled symbol.Table = (refl, refl)
+symbol_spelled symbol.Update = (refl, refl)
+symbol_spelled symbol.Values = (refl, refl)
+symbol_spelled symbol.Varchar = (refl, refl)
+symbol_spelled symbol.Where = (refl, refl)
+symbol_spelled symbol.Open = refl
+symbol_spelled symbol.Close = refl
+symbol_spelled symbol.Comma = refl
+symbol_spelled symbol.Dot = refl
+symbol_spelled symbol.Semicolon = refl
+symbol_spelled symbol.Star = refl
+symbol_spelled symbol.Plus = refl
+symbol_spelled symbol.Minus = refl
+symbol_spelled symbol.Slash = refl
+symbol_spelled symbol.Equal = refl
+symbol_spelled symbol.Unequal = refl
+symbol_spelled symbol.Less = refl
+symbol_spelled symbol.LessEqual = refl
+symbol_spelled symbol.Greater = refl
+symbol_spelled symbol.GreaterEqual = refl
 
-mark_dot : (m : Mark) → j.is_dot (mark_kind m) ≡ true → is_dot (Fixed m) ≡ true
-mark_dot mark.Dot e = refl
-mark_dot mark.And e = absurd cc
-mark_dot mark.As e = absurd cc
-mark_dot mark.Asc e = absurd cc
-mark_dot mark.Begin e = absurd cc
-mark_dot mark.Bigint e = absurd cc
-mark_dot mark.By e = absurd cc
-mark_dot mark.Commit e = absurd cc
-mark_dot mark.Create e = absurd cc
-mark_dot mark.Datalink e = absurd cc
-mark_dot mark.Delete e = absurd cc
-mark_dot mark.Desc e = absurd cc
-mark_dot mark.Drop e = absurd cc
-mark_dot mark.From e = absurd cc
-mark_dot mark.Group e = absurd cc
-mark_dot mark.Inner e = absurd cc
-mark_dot mark.Insert e = absurd cc
-mark_dot mark.Integer e = absurd cc
-mark_dot mark.Into e = absurd cc
-mark_dot mark.Is e = absurd cc
-mark_dot mark.Join e = absurd cc
-mark_dot mark.Key e = absurd cc
-mark_dot mark.Not e = absurd cc
-mark_dot mark.Null e = absurd cc
-mark_dot mark.On e = absurd cc
-mark_dot mark.Or e = absurd cc
-mark_dot mark.Order e = absurd cc
-mark_dot mark.Primary e = absurd cc
-mark_dot mark.Rollback e = absurd cc
-mark_dot mark.Select e = absurd cc
-mark_dot mark.Set e = absurd cc
-mark_dot mark.Table e = absurd cc
-mark_dot mark.Update e = absurd cc
-mark_dot mark.Values e = absurd cc
-mark_dot mark.Varchar e = absurd cc
-mark_dot mark.Where e = absurd cc
-mark_dot mark.Open e = absurd cc
-mark_dot mark.Close e = absurd cc
-mark_dot mark.Comma e = absurd cc
-mark_dot mark.Semicolon e = absurd cc
-mark_dot mark.Star e = absurd cc
-mark_dot mark.Plus e = absurd cc
-mark_dot mark.Minus e = absurd cc
-mark_dot mark.Slash e = absurd cc
-mark_dot mark.Equal e = absurd cc
-mark_dot mark.Unequal e = absurd cc
-mark_dot mark.Less e = absurd cc
-mark_dot mark.LessEqual e = absurd cc
-mark_dot mark.Greater e = absurd cc
-mark_dot mark.GreaterEqual e = absurd cc
+symbol_dot : (m : Symbol) → j.is_dot (symbol_kind m) ≡ true → is_dot (Fixed m) ≡ true
+symbol_dot symbol.Dot e = refl
+symbol_dot symbol.And e = absurd cc
+symbol_dot symbol.As e = absurd cc
+symbol_dot symbol.Asc e = absurd cc
+symbol_dot symbol.Begin e = absurd cc
+symbol_dot symbol.Bigint e = absurd cc
+symbol_dot symbol.By e = absurd cc
+symbol_dot symbol.Commit e = absurd cc
+symbol_dot symbol.Create e = absurd cc
+symbol_dot symbol.Datalink e = absurd cc
+symbol_dot symbol.Delete e = absurd cc
+symbol_dot symbol.Desc e = absurd cc
+symbol_dot symbol.Drop e = absurd cc
+symbol_dot symbol.From e = absurd cc
+symbol_dot symbol.Group e = absurd cc
+symbol_dot symbol.Inner e = absurd cc
+symbol_dot symbol.Insert e = absurd cc
+symbol_dot symbol.Integer e = absurd cc
+symbol_dot symbol.Into e = absurd cc
+symbol_dot symbol.Is e = absurd cc
+symbol_dot symbol.Join e = absurd cc
+symbol_dot symbol.Key e = absurd cc
+symbol_dot symbol.Not e = absurd cc
+symbol_dot symbol.Null e = absurd cc
+symbol_dot symbol.On e = absurd cc
+symbol_dot symbol.Or e = absurd cc
+symbol_dot symbol.Order e = absurd cc
+symbol_dot symbol.Primary e = absurd cc
+symbol_dot symbol.Rollback e = absurd cc
+symbol_dot symbol.Select e = absurd cc
+symbol_dot symbol.Set e = absurd cc
+symbol_dot symbol.Table e = absurd cc
+symbol_dot symbol.Update e = absurd cc
+symbol_dot symbol.Values e = absurd cc
+symbol_dot symbol.Varchar e = absurd cc
+symbol_dot symbol.Where e = absurd cc
+symbol_dot symbol.Open e = absurd cc
+symbol_dot symbol.Close e = absurd cc
+symbol_dot symbol.Comma e = absurd cc
+symbol_dot symbol.Semicolon e = absurd cc
+symbol_dot symbol.Star e = absurd cc
+symbol_dot symbol.Plus e = absurd cc
+symbol_dot symbol.Minus e = absurd cc
+symbol_dot symbol.Slash e = absurd cc
+symbol_dot symbol.Equal e = absurd cc
+symbol_dot symbol.Unequal e = absurd cc
+symbol_dot symbol.Less e = absurd cc
+symbol_dot symbol.LessEqual e = absurd cc
+symbol_dot symbol.Greater e = absurd cc
+symbol_dot symbol.GreaterEqual e = absurd cc
 
 -- ---- each piece
 
-terminal_kind : (i : Ink) → IsProper (said_by i) → terminal (ink_kind i) ≡ said_by i
-terminal_kind (ink.Mark m) h = mark_terminal m
-terminal_kind (ink.Link w) h = ap (λ o. word_terminal o (bytes_of w)) h.1
-terminal_kind (ink.Function f) h = ap (λ o. word_terminal o (function_name f)) h.1
-terminal_kind (ink.Name n) h = ap (λ o. word_terminal o n) h.1
-terminal_kind (ink.Number z) h = refl
-terminal_kind (ink.Literal t) h = refl
+terminal_kind : (i : PrintToken) → IsProper (print_terminal i) → terminal (print_token_kind i) ≡ print_terminal i
+terminal_kind (print_token.Symbol m) h = symbol_terminal m
+terminal_kind (print_token.Link w) h = ap (λ o. word_terminal o (bytes_of w)) h.1
+terminal_kind (print_token.Function f) h = ap (λ o. word_terminal o (function_name f)) h.1
+terminal_kind (print_token.Name n) h = ap (λ o. word_terminal o n) h.1
+terminal_kind (print_token.Number z) h = refl
+terminal_kind (print_token.Literal t) h = refl
 
-spelled_piece : (i : Ink) → Written → Capitals → IsProper (said_by i) → Spells (ink_kind i) (ink_bytes i)
-spelled_piece (ink.Mark m) w c h = mark_spelled m
-spelled_piece (ink.Link l) w c h = c (bytes_of l) h.0
-spelled_piece (ink.Function f) w c h = c (function_name f) h.0
-spelled_piece (ink.Name n) w c h = w (lexeme.Word n) h.0
-spelled_piece (ink.Number z) w c h = w (lexeme.Number z) h
-spelled_piece (ink.Literal t) w c h = w (lexeme.Literal t) h
+spelled_piece : (i : PrintToken) → Written → Capitals → IsProper (print_terminal i) → Spells (print_token_kind i) (print_token_bytes i)
+spelled_piece (print_token.Symbol m) w c h = symbol_spelled m
+spelled_piece (print_token.Link l) w c h = c (bytes_of l) h.0
+spelled_piece (print_token.Function f) w c h = c (function_name f) h.0
+spelled_piece (print_token.Name n) w c h = w (lexeme.Word n) h.0
+spelled_piece (print_token.Number z) w c h = w (lexeme.Number z) h
+spelled_piece (print_token.Literal t) w c h = w (lexeme.Literal t) h
 
-dot_kind : (i : Ink) → j.is_dot (ink_kind i) ≡ true → is_dot (said_by i) ≡ true
-dot_kind (ink.Mark m) e = mark_dot m e
-dot_kind (ink.Link w) e = absurd cc
-dot_kind (ink.Function f) e = absurd cc
-dot_kind (ink.Name n) e = absurd cc
-dot_kind (ink.Number z) e = absurd cc
-dot_kind (ink.Literal t) e = absurd cc
+dot_kind : (i : PrintToken) → j.is_dot (print_token_kind i) ≡ true → is_dot (print_terminal i) ≡ true
+dot_kind (print_token.Symbol m) e = symbol_dot m e
+dot_kind (print_token.Link w) e = absurd cc
+dot_kind (print_token.Function f) e = absurd cc
+dot_kind (print_token.Name n) e = absurd cc
+dot_kind (print_token.Number z) e = absurd cc
+dot_kind (print_token.Literal t) e = absurd cc
 
-word_kind : (i : Ink) → is_word (said_by i) ≡ true → j.is_word (ink_kind i) ≡ true
-word_kind (ink.Mark m) e = absurd cc
-word_kind (ink.Link w) e = refl
-word_kind (ink.Function f) e = refl
-word_kind (ink.Name n) e = refl
-word_kind (ink.Number z) e = absurd cc
-word_kind (ink.Literal t) e = absurd cc
+word_kind : (i : PrintToken) → is_word (print_terminal i) ≡ true → j.is_word (print_token_kind i) ≡ true
+word_kind (print_token.Symbol m) e = absurd cc
+word_kind (print_token.Link w) e = refl
+word_kind (print_token.Function f) e = refl
+word_kind (print_token.Name n) e = refl
+word_kind (print_token.Number z) e = absurd cc
+word_kind (print_token.Literal t) e = absurd cc
 
-pieces : (is : List Ink) (b : Bool) → Written → Capitals → AreProper (inked is) → Dotted b (inked is) → ArePieces (map piece_of is)
+pieces : (is : List PrintToken) (b : Bool) → Written → Capitals → AreProper (print_terminals is) → Dotted b (print_terminals is) → ArePieces (map piece_of is)
 pieces [] b w c p d = tt
 pieces (i ∷ []) b w c p d = spelled_piece i w c p.0
-pieces (i ∷ k ∷ is) b w c p d = (spelled_piece i w c p.0, (λ e. word_kind i (d.1.0 (dot_kind k e))), pieces (k ∷ is) (is_word (said_by i)) w c p.1 d.1)
+pieces (i ∷ k ∷ is) b w c p d = (spelled_piece i w c p.0, (λ e. word_kind i (d.1.0 (dot_kind k e))), pieces (k ∷ is) (is_word (print_terminal i)) w c p.1 d.1)
 
 -- ---- the terminals of what is joined
 
-kinds_of : (is : List Ink) → map (λ x. x.0) (map piece_of is) ≡ map ink_kind is
+kinds_of : (is : List PrintToken) → map (λ x. x.0) (map piece_of is) ≡ map print_token_kind is
 kinds_of [] = refl
-kinds_of (i ∷ is) = ap (λ (ks : List LexKind). ink_kind i ∷ ks) (kinds_of is)
+kinds_of (i ∷ is) = ap (λ (ks : List LexKind). print_token_kind i ∷ ks) (kinds_of is)
 
 kinds_terminals : (xs : List Lexeme) → map terminal (map (λ x. x.kind) xs) ≡ terminals xs
 kinds_terminals [] = refl
 kinds_terminals (x ∷ xs) = ap (λ (ts : List Terminal). terminal x.kind ∷ ts) (kinds_terminals xs)
 
-inks_terminals : (is : List Ink) → AreProper (inked is) → map terminal (map ink_kind is) ≡ inked is
-inks_terminals [] h = refl
-inks_terminals (i ∷ is) h = (λ k. terminal_kind i h.0 k ∷ inks_terminals is h.1 k)
+print_tokens_terminals : (is : List PrintToken) → AreProper (print_terminals is) → map terminal (map print_token_kind is) ≡ print_terminals is
+print_tokens_terminals [] h = refl
+print_tokens_terminals (i ∷ is) h = (λ k. terminal_kind i h.0 k ∷ print_tokens_terminals is h.1 k)
 
 -- ---- the terminals of a text are proper
 
-word_proper : (o : Option Mark) (w : List ℕ) → reserved_mark w ≡ o → IsSpelled (lexeme.Word w) → IsProper (word_terminal o w)
+word_proper : (o : Option Symbol) (w : List ℕ) → reserved_symbol w ≡ o → IsSpelled (lexeme.Word w) → IsProper (word_terminal o w)
 word_proper (Some m) w e s = tt
 word_proper None w e s = (s, e)
 
 lexeme_proper : (k : LexKind) → IsSpelled k → IsProper (terminal k)
-lexeme_proper (lexeme.Word w) s = word_proper (reserved_mark w) w refl s
+lexeme_proper (lexeme.Word w) s = word_proper (reserved_symbol w) w refl s
 lexeme_proper (lexeme.Number z) s = s
 lexeme_proper (lexeme.Literal t) s = s
 lexeme_proper (lexeme.Sign k) s = tt
@@ -277,5 +277,5 @@ means_again w c sp jo text s (xs, lexes, says) =
     let proper = lexemes_proper xs (sp xs 1 text lexes) in
     let again = prints_statement s (terminals xs) says proper in
     let l = jo (map piece_of (printed s)) 1 (pieces (printed s) false w c again.proper again.dotted) in
-    let same : terminals l.0 ≡ inked (printed s) = sym (kinds_terminals l.0) ∙ ap (λ (ks : List LexKind). map terminal ks) (l.2 ∙ kinds_of (printed s)) ∙ inks_terminals (printed s) again.proper in
+    let same : terminals l.0 ≡ print_terminals (printed s) = sym (kinds_terminals l.0) ∙ ap (λ (ks : List LexKind). map terminal ks) (l.2 ∙ kinds_of (printed s)) ∙ print_tokens_terminals (printed s) again.proper in
     (l.0, l.1, subst (Statement s) (sym same) again.says)

@@ -3,8 +3,6 @@
 
 mod printer;
 mod printing;
-#[cfg(test)]
-mod tests;
 mod writing;
 
 pub use printer::{print, print_again};

@@ -3,95 +3,95 @@ ghost use Rattle.std.specs.Prelude.{◌≡◌, IfOk, List as Items, ℕ};
 ghost use Rattle.dl_base.specs.declared.statement.Stmt.{Stmt as Tree};
 ghost use Rattle.sql_lex.specs.Joined as pieces;
 ghost use Rattle.sql_grammar.specs.Meaning.{Means};
-ghost use Rattle.sql_print.specs.Writing.{mark_kind, ink_kind, joined_inks, text_of};
+ghost use Rattle.sql_print.specs.Writing.{symbol_kind, print_token_kind, joined_tokens, text_of};
 
 use crate::printing::put_statement;
-use crate::writing::{put_gap, put_ink};
+use crate::writing::{put_gap, put_token};
 use dl_base::{List, Memory, Stmt, Text};
-use sql_grammar::{Ink, Mark};
+use sql_grammar::{PrintToken, Symbol};
 use sql_lex::{joined_again, written_again};
 use std::alloc::Global;
 
-fn is_dot(ink: &Ink) -> bool
-    ensures { result ≡ pieces.is_dot (ink_kind ink.now) }
+fn is_dot(token: &PrintToken) -> bool
+    ensures { result ≡ pieces.is_dot (print_token_kind token.now) }
 {
-    match ink {
-        Ink::Mark(mark) => is_dot_mark(*mark),
-        Ink::Link(_) => false,
-        Ink::Function(_) => false,
-        Ink::Name(_) => false,
-        Ink::Number(_) => false,
-        Ink::Literal(_) => false,
+    match token {
+        PrintToken::Symbol(symbol) => is_dot_symbol(*symbol),
+        PrintToken::Link(_) => false,
+        PrintToken::Function(_) => false,
+        PrintToken::Name(_) => false,
+        PrintToken::Number(_) => false,
+        PrintToken::Literal(_) => false,
     }
 }
 
-fn is_dot_mark(mark: Mark) -> bool
-    ensures { result ≡ pieces.is_dot (mark_kind mark) }
+fn is_dot_symbol(symbol: Symbol) -> bool
+    ensures { result ≡ pieces.is_dot (symbol_kind symbol) }
 {
-    match mark {
-        Mark::Dot => true,
-        Mark::And
-        | Mark::As
-        | Mark::Asc
-        | Mark::Begin
-        | Mark::Bigint
-        | Mark::By
-        | Mark::Commit
-        | Mark::Create => false,
-        Mark::Datalink
-        | Mark::Delete
-        | Mark::Desc
-        | Mark::Drop
-        | Mark::From
-        | Mark::Group
-        | Mark::Inner
-        | Mark::Insert => false,
-        Mark::Integer
-        | Mark::Into
-        | Mark::Is
-        | Mark::Join
-        | Mark::Key
-        | Mark::Not
-        | Mark::Null
-        | Mark::On => false,
-        Mark::Or
-        | Mark::Order
-        | Mark::Primary
-        | Mark::Rollback
-        | Mark::Select
-        | Mark::Set
-        | Mark::Table
-        | Mark::Update => false,
-        Mark::Values
-        | Mark::Varchar
-        | Mark::Where
-        | Mark::Open
-        | Mark::Close
-        | Mark::Comma
-        | Mark::Semicolon
-        | Mark::Star => false,
-        Mark::Plus
-        | Mark::Minus
-        | Mark::Slash
-        | Mark::Equal
-        | Mark::Unequal
-        | Mark::Less
-        | Mark::LessEqual
-        | Mark::Greater => false,
-        Mark::GreaterEqual => false,
+    match symbol {
+        Symbol::Dot => true,
+        Symbol::And
+        | Symbol::As
+        | Symbol::Asc
+        | Symbol::Begin
+        | Symbol::Bigint
+        | Symbol::By
+        | Symbol::Commit
+        | Symbol::Create => false,
+        Symbol::Datalink
+        | Symbol::Delete
+        | Symbol::Desc
+        | Symbol::Drop
+        | Symbol::From
+        | Symbol::Group
+        | Symbol::Inner
+        | Symbol::Insert => false,
+        Symbol::Integer
+        | Symbol::Into
+        | Symbol::Is
+        | Symbol::Join
+        | Symbol::Key
+        | Symbol::Not
+        | Symbol::Null
+        | Symbol::On => false,
+        Symbol::Or
+        | Symbol::Order
+        | Symbol::Primary
+        | Symbol::Rollback
+        | Symbol::Select
+        | Symbol::Set
+        | Symbol::Table
+        | Symbol::Update => false,
+        Symbol::Values
+        | Symbol::Varchar
+        | Symbol::Where
+        | Symbol::Open
+        | Symbol::Close
+        | Symbol::Comma
+        | Symbol::Semicolon
+        | Symbol::Star => false,
+        Symbol::Plus
+        | Symbol::Minus
+        | Symbol::Slash
+        | Symbol::Equal
+        | Symbol::Unequal
+        | Symbol::Less
+        | Symbol::LessEqual
+        | Symbol::Greater => false,
+        Symbol::GreaterEqual => false,
     }
 }
 
 // One blank between lexemes, and none round a dot.
-fn joined(alloc: Global, inks: &[Ink]) -> Result<List<u8>, Memory>
-    ensures { IfOk result (λ bytes. bytes ≡ joined_inks inks.now) }
+fn joined(alloc: Global, tokens: &[PrintToken]) -> Result<List<u8>, Memory>
+    ensures { IfOk result (λ bytes. bytes ≡ joined_tokens tokens.now) }
 {
     let mut out = List::empty(alloc);
     let mut tight = true;
-    'inks: for ink in inks {
-        let dot = is_dot(ink);
+    'tokens: for token in tokens {
+        let dot = is_dot(token);
         put_gap(&mut out, tight, dot)?;
-        put_ink(&mut out, ink)?;
+        put_token(&mut out, token)?;
         tight = dot;
     }
     Ok(out)
@@ -103,9 +103,9 @@ fn joined(alloc: Global, inks: &[Ink]) -> Result<List<u8>, Memory>
 pub fn print(alloc: Global, stmt: &Stmt) -> Result<Text, Memory>
     ensures { IfOk result (λ text. text ≡ text_of stmt.now) }
 {
-    let mut inks = List::empty(alloc);
-    put_statement(&mut inks, stmt)?;
-    let bytes = joined(alloc, inks.as_slice())?;
+    let mut tokens = List::empty(alloc);
+    put_statement(&mut tokens, stmt)?;
+    let bytes = joined(alloc, tokens.as_slice())?;
     Ok(Text::from_vec(bytes.into_vec()))
 }
 

@@ -3,68 +3,68 @@ ghost use Rattle.std.specs.Prelude.{◌≡◌, ◌++◌, ◌∷◌, [], ◌||◌
 ghost use Rattle.std.specs.Char.{to_ascii_uppercase};
 ghost use Rattle.sql_lex.specs.Spelling.{doubled};
 ghost use Rattle.sql_grammar.specs.Words.{bytes_of};
-ghost use Rattle.sql_grammar.specs.Reserved.{spelled};
-ghost use Rattle.sql_grammar.specs.Inks.{function_name};
-ghost use Rattle.sql_print.specs.Writing.{ink_bytes, gap};
+ghost use Rattle.sql_grammar.specs.PrintTokens.{spelled};
+ghost use Rattle.sql_grammar.specs.PrintTokens.{function_name};
+ghost use Rattle.sql_print.specs.Writing.{print_token_bytes, gap};
 
 use dl_base::{Fold, List, Memory, Part};
-use sql_grammar::{Function, Ink, LinkWord, Mark};
+use sql_grammar::{Function, LinkWord, PrintToken, Symbol};
 
-// A mark, reserved words in capitals.
-fn spelled(mark: Mark) -> &'static [u8]
-    ensures { result.now ≡ spelled mark }
+// A symbol, reserved words in capitals.
+fn spelled(symbol: Symbol) -> &'static [u8]
+    ensures { result.now ≡ spelled symbol }
 {
-    match mark {
-        Mark::And => b"AND",
-        Mark::As => b"AS",
-        Mark::Asc => b"ASC",
-        Mark::Begin => b"BEGIN",
-        Mark::Bigint => b"BIGINT",
-        Mark::By => b"BY",
-        Mark::Commit => b"COMMIT",
-        Mark::Create => b"CREATE",
-        Mark::Datalink => b"DATALINK",
-        Mark::Delete => b"DELETE",
-        Mark::Desc => b"DESC",
-        Mark::Drop => b"DROP",
-        Mark::From => b"FROM",
-        Mark::Group => b"GROUP",
-        Mark::Inner => b"INNER",
-        Mark::Insert => b"INSERT",
-        Mark::Integer => b"INTEGER",
-        Mark::Into => b"INTO",
-        Mark::Is => b"IS",
-        Mark::Join => b"JOIN",
-        Mark::Key => b"KEY",
-        Mark::Not => b"NOT",
-        Mark::Null => b"NULL",
-        Mark::On => b"ON",
-        Mark::Or => b"OR",
-        Mark::Order => b"ORDER",
-        Mark::Primary => b"PRIMARY",
-        Mark::Rollback => b"ROLLBACK",
-        Mark::Select => b"SELECT",
-        Mark::Set => b"SET",
-        Mark::Table => b"TABLE",
-        Mark::Update => b"UPDATE",
-        Mark::Values => b"VALUES",
-        Mark::Varchar => b"VARCHAR",
-        Mark::Where => b"WHERE",
-        Mark::Open => b"(",
-        Mark::Close => b")",
-        Mark::Comma => b",",
-        Mark::Dot => b".",
-        Mark::Semicolon => b";",
-        Mark::Star => b"*",
-        Mark::Plus => b"+",
-        Mark::Minus => b"-",
-        Mark::Slash => b"/",
-        Mark::Equal => b"=",
-        Mark::Unequal => b"<>",
-        Mark::Less => b"<",
-        Mark::LessEqual => b"<=",
-        Mark::Greater => b">",
-        Mark::GreaterEqual => b">=",
+    match symbol {
+        Symbol::And => b"AND",
+        Symbol::As => b"AS",
+        Symbol::Asc => b"ASC",
+        Symbol::Begin => b"BEGIN",
+        Symbol::Bigint => b"BIGINT",
+        Symbol::By => b"BY",
+        Symbol::Commit => b"COMMIT",
+        Symbol::Create => b"CREATE",
+        Symbol::Datalink => b"DATALINK",
+        Symbol::Delete => b"DELETE",
+        Symbol::Desc => b"DESC",
+        Symbol::Drop => b"DROP",
+        Symbol::From => b"FROM",
+        Symbol::Group => b"GROUP",
+        Symbol::Inner => b"INNER",
+        Symbol::Insert => b"INSERT",
+        Symbol::Integer => b"INTEGER",
+        Symbol::Into => b"INTO",
+        Symbol::Is => b"IS",
+        Symbol::Join => b"JOIN",
+        Symbol::Key => b"KEY",
+        Symbol::Not => b"NOT",
+        Symbol::Null => b"NULL",
+        Symbol::On => b"ON",
+        Symbol::Or => b"OR",
+        Symbol::Order => b"ORDER",
+        Symbol::Primary => b"PRIMARY",
+        Symbol::Rollback => b"ROLLBACK",
+        Symbol::Select => b"SELECT",
+        Symbol::Set => b"SET",
+        Symbol::Table => b"TABLE",
+        Symbol::Update => b"UPDATE",
+        Symbol::Values => b"VALUES",
+        Symbol::Varchar => b"VARCHAR",
+        Symbol::Where => b"WHERE",
+        Symbol::Open => b"(",
+        Symbol::Close => b")",
+        Symbol::Comma => b",",
+        Symbol::Dot => b".",
+        Symbol::Semicolon => b";",
+        Symbol::Star => b"*",
+        Symbol::Plus => b"+",
+        Symbol::Minus => b"-",
+        Symbol::Slash => b"/",
+        Symbol::Equal => b"=",
+        Symbol::Unequal => b"<>",
+        Symbol::Less => b"<",
+        Symbol::LessEqual => b"<=",
+        Symbol::Greater => b">",
+        Symbol::GreaterEqual => b">=",
     }
 }
 
@@ -149,19 +149,19 @@ fn put_doubled(out: &mut List<u8>, bytes: &[u8]) -> Result<(), Memory>
 }
 
 /// Appends what is printed in one piece.
-pub fn put_ink(out: &mut List<u8>, ink: &Ink) -> Result<(), Memory>
-    ensures { OnOk result (out.new ≡ out.old ++ ink_bytes ink.now) }
+pub fn put_token(out: &mut List<u8>, token: &PrintToken) -> Result<(), Memory>
+    ensures { OnOk result (out.new ≡ out.old ++ print_token_bytes token.now) }
 {
-    match ink {
-        Ink::Mark(mark) => out.extend(spelled(*mark)),
-        Ink::Link(word) => out.extend(link_word(*word)),
-        Ink::Function(function) => out.extend(function_word(*function)),
-        Ink::Name(name) => out.extend(name.bytes()),
-        Ink::Number(number) => {
+    match token {
+        PrintToken::Symbol(symbol) => out.extend(spelled(*symbol)),
+        PrintToken::Link(word) => out.extend(link_word(*word)),
+        PrintToken::Function(function) => out.extend(function_word(*function)),
+        PrintToken::Name(name) => out.extend(name.bytes()),
+        PrintToken::Number(number) => {
             let digits = number.to_string(out.allocator())?;
             out.extend(digits.as_bytes())
         }
-        Ink::Literal(text) => {
+        PrintToken::Literal(text) => {
             out.push(b'\'')?;
             put_doubled(out, text.bytes())?;
             out.push(b'\'')?;

@@ -14,12 +14,12 @@ use Rattle.dl_base.specs.declared.value.Row.{Row}
 use Rattle.dl_base.specs.declared.value.Value.{Value}
 use Rattle.meaning_sql.specs.declared.Context.{Context}
 use Rattle.meaning_sql.specs.declared.SqlType.{SqlType}
-use Rattle.meaning_sql.specs.declared.Standing.{Standing}
+use Rattle.meaning_sql.specs.declared.AggregateScope.{AggregateScope}
 use Rattle.meaning_sql.specs.Columns.{Columns, only_one}
-use Rattle.meaning_sql.specs.Faults.{◌>>=◌, typed}
-use Rattle.meaning_statements.specs.Conditions.{condition_type}
-use Rattle.meaning_statements.specs.Lists.{unless, option_list, each, product_of, sorted, groups}
-use Rattle.meaning_statements.specs.Selecting.{Shown, star, shown, one_shown, named_places, key_place, type_at_place, key_of, is_key, row_of_cells, units, no_row, same_value, is_grouped, standing_of, group_place, combined, is_before, select}
+use Rattle.meaning_sql.specs.Faults.{◌>>=◌, typed, ensure, option_list, try_map}
+use Rattle.meaning_sql.specs.Conditions.{condition_type}
+use Rattle.meaning_statements.specs.Lists.{sorted, groups}
+use Rattle.meaning_statements.specs.Selecting.{are_few, OutputColumn, star, output_columns, output_column, named_places, key_place, type_at_place, key_of, is_key, row_of_cells, units, no_row, same_value, is_grouped, scope_of, group_place, combined, is_before, select}
 use Rattle.meaning_statements.specs.Sources.{Source, sources_of, columns_of}
 use Rattle.meaning_tables.specs.Tables.{Tables}
 use Rattle.sql_query.specs.Answering.{of_group, by_way, answers_of}
@@ -31,23 +31,23 @@ bind_same : {A B : Type 0} (m : Result A SqlFault) (f g : A → Result B SqlFaul
 bind_same (Err e) f g h = refl
 bind_same (Ok x) f g h = h x
 
-each_map : {A B C : Type 0} (f : B → Result C SqlFault) (g : A → B) (xs : List A) → each f (map g xs) ≡ each (λ x. f (g x)) xs
+each_map : {A B C : Type 0} (f : B → Result C SqlFault) (g : A → B) (xs : List A) → try_map f (map g xs) ≡ try_map (λ x. f (g x)) xs
 each_map f g [] = refl
 each_map {A} {B} {C} f g (x ∷ xs) = ap (λ (m : Result (List C) SqlFault). f (g x) >>= λ y. m >>= λ ys. Ok (y ∷ ys)) (each_map f g xs)
 
-each_same : {A B : Type 0} (f g : A → Result B SqlFault) → ((x : A) → f x ≡ g x) → (xs : List A) → each f xs ≡ each g xs
+each_same : {A B : Type 0} (f g : A → Result B SqlFault) → ((x : A) → f x ≡ g x) → (xs : List A) → try_map f xs ≡ try_map g xs
 each_same f g h [] = refl
 each_same {A} {B} f g h (x ∷ xs) = rw (h x) (ap (λ (m : Result (List B) SqlFault). g x >>= λ y. m >>= λ ys. Ok (y ∷ ys)) (each_same f g h xs))
 
 -- The types of what is shown.
 
-star_types : (s : Standing) (i : ℕ) (columns : Columns) → each (λ (x : Shown). x.type s) (star i columns) ≡ each (star_type s) columns
+star_types : (s : AggregateScope) (i : ℕ) (columns : Columns) → try_map (λ (x : OutputColumn). x.type s) (star i columns) ≡ try_map (star_type s) columns
 star_types s i [] = refl
 star_types s i (c ∷ cs) = ap (λ (m : Result (List SqlType) SqlFault). star_type s c >>= λ y. m >>= λ ys. Ok (y ∷ ys)) (star_types s (i + 1) cs)
 
-pub types-are : (columns : Columns) (context : Context) (s : Standing) (items : Option (List Item)) → each (λ (x : Shown). x.type s) (shown columns context items) ≡ types_of columns s items
+pub types-are : (columns : Columns) (context : Context) (s : AggregateScope) (items : Option (List Item)) → try_map (λ (x : OutputColumn). x.type s) (output_columns columns context items) ≡ types_of columns s items
 types-are columns context s None = star_types s 0 columns
-types-are columns context s (Some items) = each_map (λ (x : Shown). x.type s) (one_shown columns context) items
+types-are columns context s (Some items) = each_map (λ (x : OutputColumn). x.type s) (output_column columns context) items
 
 -- The places of names.
 
@@ -61,7 +61,7 @@ star_named name i start (c ∷ cs) =
     ap (λ (b : Bool). if b then i ∷ named_places name (i + 1) (star (start + 1) cs) else named_places name (i + 1) (star (start + 1) cs)) (or_false (bytes_eq name c.1.name))
     ∙ ap (λ (ps : List ℕ). if bytes_eq name c.1.name then i ∷ ps else ps) (star_named name (i + 1) (start + 1) cs)
 
-items_named : (columns : Columns) (context : Context) (name : List ℕ) (i : ℕ) (items : List Item) → named_places name i (map (one_shown columns context) items) ≡ places_of (is_item_named name) i items
+items_named : (columns : Columns) (context : Context) (name : List ℕ) (i : ℕ) (items : List Item) → named_places name i (map (output_column columns context) items) ≡ places_of (is_item_named name) i items
 items_named columns context name i [] = refl
 items_named columns context name i (x ∷ xs) = ap (λ (ps : List ℕ). if is_item_named name x then i ∷ ps else ps) (items_named columns context name (i + 1) xs)
 
@@ -73,55 +73,55 @@ map_length : {A B : Type 0} (f : A → B) (xs : List A) → length (map f xs) �
 map_length f [] = refl
 map_length f (x ∷ xs) = ap suc (map_length f xs)
 
-width_is : (columns : Columns) (context : Context) (items : Option (List Item)) → length (shown columns context items) ≡ width columns items
+width_is : (columns : Columns) (context : Context) (items : Option (List Item)) → length (output_columns columns context items) ≡ width columns items
 width_is columns context None = star_length 0 columns
-width_is columns context (Some items) = map_length (one_shown columns context) items
+width_is columns context (Some items) = map_length (output_column columns context) items
 
-named_is : (columns : Columns) (context : Context) (items : Option (List Item)) (name : List ℕ) → only_one name (named_places name 0 (shown columns context items)) ≡ place_named columns items name
+named_is : (columns : Columns) (context : Context) (items : Option (List Item)) (name : List ℕ) → only_one name (named_places name 0 (output_columns columns context items)) ≡ place_named columns items name
 named_is columns context None name = ap (only_one name) (star_named name 0 0 columns)
 named_is columns context (Some items) name = ap (only_one name) (items_named columns context name 0 items)
 
-place_is : (columns : Columns) (context : Context) (items : Option (List Item)) (by : KeyBy) → key_place (shown columns context items) by ≡ place_by columns items by
+place_is : (columns : Columns) (context : Context) (items : Option (List Item)) (by : KeyBy) → key_place (output_columns columns context items) by ≡ place_by columns items by
 place_is columns context items (keys.Name name) = named_is columns context items name
 place_is columns context items (keys.Place (pos zero)) = refl
 place_is columns context items (keys.Place (pos (suc n))) = rw (width_is columns context items) refl
 place_is columns context items (keys.Place (negsuc n)) = refl
 
-star_type_at : (s : Standing) (i j : ℕ) (columns : Columns) → type_at_place (slice_get (star i columns) j) s ≡ type_if (star_type s) (slice_get columns j)
+star_type_at : (s : AggregateScope) (i j : ℕ) (columns : Columns) → type_at_place (slice_get (star i columns) j) s ≡ type_if (star_type s) (slice_get columns j)
 star_type_at s i j [] = refl
 star_type_at s i zero (c ∷ cs) = refl
 star_type_at s i (suc j) (c ∷ cs) = star_type_at s (i + 1) j cs
 
-item_type_at : (columns : Columns) (context : Context) (s : Standing) (j : ℕ) (items : List Item) → type_at_place (slice_get (map (one_shown columns context) items) j) s ≡ type_if (item_type columns s) (slice_get items j)
+item_type_at : (columns : Columns) (context : Context) (s : AggregateScope) (j : ℕ) (items : List Item) → type_at_place (slice_get (map (output_column columns context) items) j) s ≡ type_if (item_type columns s) (slice_get items j)
 item_type_at columns context s j [] = refl
 item_type_at columns context s zero (x ∷ xs) = refl
 item_type_at columns context s (suc j) (x ∷ xs) = item_type_at columns context s j xs
 
-type_is : (columns : Columns) (context : Context) (items : Option (List Item)) (s : Standing) (j : ℕ) → type_at_place (slice_get (shown columns context items) j) s ≡ type_shown columns items s j
+type_is : (columns : Columns) (context : Context) (items : Option (List Item)) (s : AggregateScope) (j : ℕ) → type_at_place (slice_get (output_columns columns context items) j) s ≡ type_shown columns items s j
 type_is columns context None s j = star_type_at s 0 j columns
 type_is columns context (Some items) s j = item_type_at columns context s j items
 
-pub key-is : (columns : Columns) (context : Context) (items : Option (List Item)) (s : Standing) (k : Key) → key_of (shown columns context items) s k ≡ key_found columns items s k
+pub key-is : (columns : Columns) (context : Context) (items : Option (List Item)) (s : AggregateScope) (k : Key) → key_of (output_columns columns context items) s k ≡ key_found columns items s k
 key-is columns context items s k =
-    ap (λ (m : Result ℕ SqlFault). m >>= λ i. type_at_place (slice_get (shown columns context items) i) s >>= λ t. typed (is_key t) (i, k.descending)) (place_is columns context items k.by)
-    ∙ bind_same (place_by columns items k.by) (λ i. type_at_place (slice_get (shown columns context items) i) s >>= λ t. typed (is_key t) (i, k.descending)) (λ i. type_shown columns items s i >>= λ t. typed (is_key t) (i, k.descending))
+    ap (λ (m : Result ℕ SqlFault). m >>= λ i. type_at_place (slice_get (output_columns columns context items) i) s >>= λ t. typed (is_key t) (i, k.descending)) (place_is columns context items k.by)
+    ∙ bind_same (place_by columns items k.by) (λ i. type_at_place (slice_get (output_columns columns context items) i) s >>= λ t. typed (is_key t) (i, k.descending)) (λ i. type_shown columns items s i >>= λ t. typed (is_key t) (i, k.descending))
     (λ i. ap (λ (m : Result SqlType SqlFault). m >>= λ t. typed (is_key t) (i, k.descending)) (type_is columns context items s i))
 
 -- The answers.
 
 abbrev answer_meant : Columns → Context → Option (List Item) → List Row → Row → Result Row SqlFault
-answer_meant columns context items group row = each (λ (s : Shown). s.at group row) (shown columns context items) >>= λ cells. Ok (row_of_cells cells)
+answer_meant columns context items group row = try_map (λ (s : OutputColumn). s.at group row) (output_columns columns context items) >>= λ cells. Ok (row_of_cells cells)
 
-star_cells : (group : List Row) (row : Row) (i : ℕ) (columns : Columns) → each (λ (s : Shown). s.at group row) (star i columns) ≡ Ok (cells_from row i columns)
+star_cells : (group : List Row) (row : Row) (i : ℕ) (columns : Columns) → try_map (λ (s : OutputColumn). s.at group row) (star i columns) ≡ Ok (cells_from row i columns)
 star_cells group row i [] = refl
 star_cells group row i (c ∷ cs) = rw (star_cells group row (i + 1) cs) refl
 
 answer_is : (columns : Columns) (context : Context) (items : Option (List Item)) (group : List Row) (row : Row) → answer_meant columns context items group row ≡ answer_of columns context items group row
 answer_is columns context None group row = rw (star_cells group row 0 columns) refl
-answer_is columns context (Some items) group row = ap (λ (m : Result (List Value) SqlFault). m >>= λ cells. Ok (row_of_cells cells)) (each_map (λ (s : Shown). s.at group row) (one_shown columns context) items)
+answer_is columns context (Some items) group row = ap (λ (m : Result (List Value) SqlFault). m >>= λ cells. Ok (row_of_cells cells)) (each_map (λ (s : OutputColumn). s.at group row) (output_column columns context) items)
 
 module _ (f g : List Row → Row → Result Row SqlFault) (h : (group : List Row) (row : Row) → f group row ≡ g group row) where
-  units_are : (grouped : Bool) (places : List ℕ) (rows : List Row) → each (λ (u : Row × List Row). f u.1 u.0) (units grouped places rows) ≡ by_way g grouped places rows
+  units_are : (grouped : Bool) (places : List ℕ) (rows : List Row) → try_map (λ (u : Row × List Row). f u.1 u.0) (units grouped places rows) ≡ by_way g grouped places rows
   units_are false places rows = each_map (λ (u : Row × List Row). f u.1 u.0) (λ (r : Row). (r, [])) rows ∙ each_same (f []) (g []) (h []) rows
   units_are true [] rows = ap (λ (m : Result Row SqlFault). m >>= λ a. Ok (a ∷ [])) (h rows (first_row rows))
   units_are true (p ∷ ps) rows =
@@ -130,7 +130,7 @@ module _ (f g : List Row → Row → Result Row SqlFault) (h : (group : List Row
       ∙ each_same (λ (group : List Row). f group (unwrap_or (slice_get group 0) no_row)) (of_group g) (λ group. h group (first_row group)) found
 
 pub answers-are : (columns : Columns) (context : Context) (q : Select) (places : List ℕ) (rows : List Row)
-    → each (λ (u : Row × List Row). each (λ (s : Shown). s.at u.1 u.0) (shown columns context q.items) >>= λ cells. Ok (row_of_cells cells)) (units (is_grouped q) places rows) ≡ answers_of columns context q places rows
+    → try_map (λ (u : Row × List Row). try_map (λ (s : OutputColumn). s.at u.1 u.0) (output_columns columns context q.items) >>= λ cells. Ok (row_of_cells cells)) (units (is_grouped q) places rows) ≡ answers_of columns context q places rows
 answers-are columns context q places rows = units_are (answer_meant columns context q.items) (answer_of columns context q.items) (answer_is columns context q.items) (is_grouped q) places rows
 
 -- The whole.
@@ -160,26 +160,26 @@ parts (Ok a) (Ok b) (Ok c) (Ok group) (Ok k) few rows f g h =
 abbrev from_sources : Select → Context → List Source → Result (List Row) SqlFault
 from_sources q context sources = do
   let columns = columns_of sources
-  let items = shown columns context q.items
-  joins ← each (condition_type columns) q.conditions
-  types ← each (λ s. s.type (standing_of columns q)) items
-  filter ← each (condition_type columns) (option_list q.filter)
-  group ← each (group_place columns) q.group
-  order_keys ← each (key_of items (standing_of columns q)) q.order
-  few ← unless (nat_le (product_of (map (λ s. length s.table.rows) sources)) 10000000) (faults.Limit limits.Product)
+  let items = output_columns columns context q.items
+  joins ← try_map (condition_type columns) q.conditions
+  types ← try_map (λ s. s.type (scope_of columns q)) items
+  filter ← try_map (condition_type columns) (option_list q.filter)
+  group ← try_map (group_place columns) q.group
+  order_keys ← try_map (key_of items (scope_of columns q)) q.order
+  few ← ensure (are_few sources) (faults.Limit limits.Product)
   rows ← combined sources context (q.conditions ++ option_list q.filter)
-  answers ← each (λ u. each (λ s. s.at u.1 u.0) items >>= λ cells. Ok (row_of_cells cells)) (units (is_grouped q) group rows)
+  answers ← try_map (λ u. try_map (λ s. s.at u.1 u.0) items >>= λ cells. Ok (row_of_cells cells)) (units (is_grouped q) group rows)
   Ok (sorted (is_before order_keys) answers)
 
 sources_same : (sources : List Source) (q : Select) (context : Context) → from_sources q context sources ≡ selected sources q context
 unfolding planned chosen answered
 sources_same sources q context =
     let columns = columns_of sources in
-    let answered = λ (group : List ℕ) (r : List Row). each (λ (u : Row × List Row). each (λ (s : Shown). s.at u.1 u.0) (shown (columns_of sources) context q.items) >>= λ cells. Ok (row_of_cells cells)) (units (is_grouped q) group r) in
-    parts (each (condition_type columns) q.conditions) (each (λ (s : Shown). s.type (standing_of columns q)) (shown columns context q.items)) (each (condition_type columns) (option_list q.filter)) (each (group_place columns) q.group)
-    (each (key_of (shown columns context q.items) (standing_of columns q)) q.order) (unless (nat_le (product_of (map (λ (s : Source). length s.table.rows) sources)) 10000000) (faults.Limit limits.Product))
+    let answered = λ (group : List ℕ) (r : List Row). try_map (λ (u : Row × List Row). try_map (λ (s : OutputColumn). s.at u.1 u.0) (output_columns (columns_of sources) context q.items) >>= λ cells. Ok (row_of_cells cells)) (units (is_grouped q) group r) in
+    parts (try_map (condition_type columns) q.conditions) (try_map (λ (s : OutputColumn). s.type (scope_of columns q)) (output_columns columns context q.items)) (try_map (condition_type columns) (option_list q.filter)) (try_map (group_place columns) q.group)
+    (try_map (key_of (output_columns columns context q.items) (scope_of columns q)) q.order) (ensure (are_few sources) (faults.Limit limits.Product))
     (combined sources context (q.conditions ++ option_list q.filter)) answered (answers_of columns context q) (answers-are columns context q)
-    ∙ rw (types-are columns context (standing_of columns q) q.items) (rw (each_same (key_of (shown columns context q.items) (standing_of columns q)) (key_found columns q.items (standing_of columns q)) (key-is columns context q.items (standing_of columns q)) q.order) refl)
+    ∙ rw (types-are columns context (scope_of columns q) q.items) (rw (each_same (key_of (output_columns columns context q.items) (scope_of columns q)) (key_found columns q.items (scope_of columns q)) (key-is columns context q.items (scope_of columns q)) q.order) refl)
 
 pub select-is : (tables : Tables) (q : Select) (context : Context) → select tables q context ≡ (sources_of tables q.from >>= λ sources. selected sources q context)
 unfolding select

@@ -1,4 +1,5 @@
--- What a query shows, of its columns or its items.
+-- Steps of a proof, which nobody need read: `types_of`, `answer_of` and `key_found` equal what `output_columns` and `key_of` of the
+-- meaning of statements (`Selecting`) say. What a query shows, of its columns or its items.
 use Rattle.std.specs.Prelude.{ℕ, suc, zero, ◌+◌, ◌++◌, Bool, List, [], ◌∷◌, length, bytes_eq, Option, Some, None, Result, Ok, Err, if◌then◌else◌, slice_get, nat_lt, ℤ, pos, negsuc}
 use Rattle.std.specs.List.{list_any}
 use Rattle.dl_base.specs.declared.column.Column.{Column}
@@ -12,23 +13,22 @@ use Rattle.dl_base.specs.declared.value.Row.{Row}
 use Rattle.dl_base.specs.declared.value.Value.{Value}
 use Rattle.meaning_sql.specs.declared.Context.{Context}
 use Rattle.meaning_sql.specs.declared.SqlType.{SqlType}
-use Rattle.meaning_sql.specs.declared.Standing.{Standing}
+use Rattle.meaning_sql.specs.declared.AggregateScope.{AggregateScope}
 use Rattle.meaning_sql.specs.Columns.{Columns, only_one}
-use Rattle.meaning_sql.specs.Faults.{◌>>=◌, typed}
+use Rattle.meaning_sql.specs.Faults.{◌>>=◌, typed, try_map, option_list}
 use Rattle.meaning_sql.specs.Types.{type_of, is_cell, kind_type}
 use Rattle.meaning_sql.specs.Values.{meaning, cell}
-use Rattle.meaning_statements.specs.Lists.{each, option_list}
 use Rattle.meaning_statements.specs.Selecting.{is_ungrouped, column_names, row_of_cells, is_key}
 
-abbrev pub star_type : Standing → List ℕ × Column → Result SqlType SqlFault
+abbrev pub star_type : AggregateScope → List ℕ × Column → Result SqlType SqlFault
 star_type s c = typed (is_ungrouped s) (kind_type c.1.kind)
 
-abbrev pub item_type : Columns → Standing → Item → Result SqlType SqlFault
+abbrev pub item_type : Columns → AggregateScope → Item → Result SqlType SqlFault
 item_type columns s item = type_of columns s item.expr >>= λ t. typed (is_cell t) t
 
-abbrev pub types_of : Columns → Standing → Option (List Item) → Result (List SqlType) SqlFault
-types_of columns s None = each (star_type s) columns
-types_of columns s (Some items) = each (item_type columns s) items
+abbrev pub types_of : Columns → AggregateScope → Option (List Item) → Result (List SqlType) SqlFault
+types_of columns s None = try_map (star_type s) columns
+types_of columns s (Some items) = try_map (item_type columns s) items
 
 -- the cells of a row from a place on, one a column
 abbrev pub cells_from : Row → ℕ → Columns → List Value
@@ -39,7 +39,7 @@ abbrev pub item_at : Columns → Context → List Row → Row → Item → Resul
 item_at columns context group row item = meaning columns context group item.expr row
 
 abbrev pub listed_row : Columns → Context → List Item → List Row → Row → Result Row SqlFault
-listed_row columns context items group row = each (item_at columns context group row) items >>= λ cells. Ok (row_of_cells cells)
+listed_row columns context items group row = try_map (item_at columns context group row) items >>= λ cells. Ok (row_of_cells cells)
 
 abbrev pub answer_of : Columns → Context → Option (List Item) → List Row → Row → Result Row SqlFault
 answer_of columns context None group row = Ok (row_of_cells (cells_from row 0 columns))
@@ -78,9 +78,9 @@ abbrev pub type_if : {A : Type 0} → (A → Result SqlType SqlFault) → Option
 type_if f (Some x) = f x
 type_if f None = Err faults.TypeFault
 
-abbrev pub type_shown : Columns → Option (List Item) → Standing → ℕ → Result SqlType SqlFault
+abbrev pub type_shown : Columns → Option (List Item) → AggregateScope → ℕ → Result SqlType SqlFault
 type_shown columns None s i = type_if (star_type s) (slice_get columns i)
 type_shown columns (Some items) s i = type_if (item_type columns s) (slice_get items i)
 
-abbrev pub key_found : Columns → Option (List Item) → Standing → Key → Result (ℕ × Bool) SqlFault
+abbrev pub key_found : Columns → Option (List Item) → AggregateScope → Key → Result (ℕ × Bool) SqlFault
 key_found columns items s k = place_by columns items k.by >>= λ i. type_shown columns items s i >>= λ t. typed (is_key t) (i, k.descending)

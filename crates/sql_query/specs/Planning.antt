@@ -1,4 +1,5 @@
--- SELECT in two parts: what is known before a row is looked at, and the rows.
+-- Steps of a proof, which nobody need read: `selected` over `sources_of` equals `select` of the meaning of statements (`Selecting`).
+-- What is known before a row is looked at, and the rows.
 use Rattle.std.specs.Prelude.{ℕ, ◌++◌, Bool, List, length, map, nat_le, Result, Ok}
 use Rattle.dl_base.specs.declared.answer.Limit.TheVariants as limits
 use Rattle.dl_base.specs.declared.sql_fault.SqlFault.{SqlFault}
@@ -7,10 +8,10 @@ use Rattle.dl_base.specs.declared.statement.Select.{Select}
 use Rattle.dl_base.specs.declared.value.Row.{Row}
 use Rattle.meaning_sql.specs.declared.Context.{Context}
 use Rattle.meaning_sql.specs.Columns.{Columns}
-use Rattle.meaning_sql.specs.Faults.{◌>>=◌}
-use Rattle.meaning_statements.specs.Conditions.{condition_type}
-use Rattle.meaning_statements.specs.Lists.{unless, each, option_list, product_of, sorted}
-use Rattle.meaning_statements.specs.Selecting.{standing_of, group_place, combined, is_before}
+use Rattle.meaning_sql.specs.Faults.{◌>>=◌, ensure, try_map, option_list}
+use Rattle.meaning_sql.specs.Conditions.{condition_type}
+use Rattle.meaning_statements.specs.Lists.{sorted}
+use Rattle.meaning_statements.specs.Selecting.{are_few, scope_of, group_place, combined, is_before}
 use Rattle.meaning_statements.specs.Sources.{Source, columns_of}
 use Rattle.sql_query.specs.Answering.{answers_of}
 use Rattle.sql_query.specs.Items.{types_of, key_found}
@@ -18,11 +19,11 @@ use Rattle.sql_query.specs.Items.{types_of, key_found}
 -- the places of GROUP BY, and the keys of ORDER BY
 unfoldable pub planned : Columns → Select → Result (List ℕ × List (ℕ × Bool)) SqlFault
 planned columns q = do
-  joins ← each (condition_type columns) q.conditions
-  types ← types_of columns (standing_of columns q) q.items
-  filter ← each (condition_type columns) (option_list q.filter)
-  group ← each (group_place columns) q.group
-  order_keys ← each (key_found columns q.items (standing_of columns q)) q.order
+  joins ← try_map (condition_type columns) q.conditions
+  types ← types_of columns (scope_of columns q) q.items
+  filter ← try_map (condition_type columns) (option_list q.filter)
+  group ← try_map (group_place columns) q.group
+  order_keys ← try_map (key_found columns q.items (scope_of columns q)) q.order
   Ok (group, order_keys)
 
 -- the rows, by those places and keys
@@ -36,7 +37,7 @@ answered columns sources q context places order_keys = do
 unfoldable pub chosen : Columns → List Source → Select → Context → Result (List Row) SqlFault
 chosen columns sources q context = do
   p ← planned columns q
-  few ← unless (nat_le (product_of (map (λ s. length s.table.rows) sources)) 10000000) (faults.Limit limits.Product)
+  few ← ensure (are_few sources) (faults.Limit limits.Product)
   answered columns sources q context p.0 p.1
 
 abbrev pub selected : List Source → Select → Context → Result (List Row) SqlFault

@@ -5,9 +5,9 @@ ghost use Rattle.std.specs.List.{list_any};
 ghost use Rattle.std.specs.Map.{lookup, values_of};
 ghost use Rattle.std.specs.Option.{option_to_list};
 ghost use Rattle.meaning_sql.specs.Columns as columns_meant;
-ghost use Rattle.meaning_sql.specs.Faults.{Gives};
+ghost use Rattle.meaning_sql.specs.Faults.{Computes, try_map};
 ghost use Rattle.meaning_sql.specs.Types.{kind_type};
-ghost use Rattle.meaning_statements.specs.Lists.{each, groups};
+ghost use Rattle.meaning_statements.specs.Lists.{groups};
 ghost use Rattle.meaning_statements.specs.Selecting as meant;
 ghost use Rattle.sql_query.specs.Grouping.{key_at, known_places, row_grouped, rows_grouped};
 
@@ -15,7 +15,7 @@ use crate::group_key::GroupKey;
 use crate::keys::is_key;
 use dl_base::{Expr, Item, List, Memory, Ref, Row, Select, SqlFault};
 use indexmap::IndexMap;
-use meaning_sql::{Columns, SqlType, Standing};
+use meaning_sql::{AggregateScope, Columns, SqlType};
 use sql_expr::{kind_type, place_of};
 use std::alloc::Global;
 use std::collections::VecDeque;
@@ -61,18 +61,18 @@ fn has_aggregate(expr: &Expr) -> bool
 }
 
 /// Where the items of a query stand. A name of GROUP BY that means no column is left out, and is refused at its own turn.
-pub(crate) fn standing_of(
+pub(crate) fn scope_of(
     alloc: Global,
     columns: &Columns,
     query: &Select,
-) -> Result<Standing, Memory>
-    ensures { IfOk result (λ s. s ≡ meant.standing_of columns.now query.now) }
+) -> Result<AggregateScope, Memory>
+    ensures { IfOk result (λ s. s ≡ meant.scope_of columns.now query.now) }
 {
     if is_grouped(query) {
         let places = known_places(alloc, columns, query.group.as_slice())?;
-        Ok(Standing::Grouped(places))
+        Ok(AggregateScope::Grouped(places))
     } else {
-        Ok(Standing::Item)
+        Ok(AggregateScope::Item)
     }
 }
 
@@ -104,7 +104,7 @@ pub(crate) fn group_places(
     columns: &Columns,
     group: &[Ref],
 ) -> Result<List<usize>, SqlFault>
-    ensures { Gives (λ p. p) result (each (meant.group_place columns.now) group.now) }
+    ensures { Computes (λ p. p) result (try_map (meant.group_place columns.now) group.now) }
 {
     let mut made = List::empty(alloc);
     for r in group {
@@ -114,7 +114,7 @@ pub(crate) fn group_places(
 }
 
 fn group_place(columns: &Columns, r: &Ref) -> Result<usize, SqlFault>
-    ensures { Gives (λ p. p) result (meant.group_place columns.now r.now) }
+    ensures { Computes (λ p. p) result (meant.group_place columns.now r.now) }
 {
     let place = place_of(columns, r)?;
     if is_key(type_at(columns, place)) {

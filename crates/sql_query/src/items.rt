@@ -2,14 +2,13 @@
 ghost use Rattle.std.specs.Prelude.{◌≡◌, ◌++◌, IfOk, Ok, bytes_eq, length};
 ghost use Rattle.std.specs.List.{list_any};
 ghost use Rattle.meaning_sql.specs.Columns.{only_one};
-ghost use Rattle.meaning_sql.specs.Faults.{Gives, typed};
+ghost use Rattle.meaning_sql.specs.Faults.{Computes, typed, try_map, option_list};
 ghost use Rattle.meaning_sql.specs.Types as types_meant;
-ghost use Rattle.meaning_statements.specs.Lists.{each, option_list};
 ghost use Rattle.meaning_statements.specs.Selecting as meant;
 ghost use Rattle.sql_query.specs.Items as shown;
 
 use dl_base::{Column, Expr, Item, List, Memory, Name, Row, SqlFault, Value};
-use meaning_sql::{Columns, Context, SqlType, Standing};
+use meaning_sql::{AggregateScope, Columns, Context, SqlType};
 use sql_expr::{cell, check_in, evaluate, kind_type};
 use std::alloc::Global;
 
@@ -18,38 +17,38 @@ pub(crate) fn item_types(
     alloc: Global,
     columns: &Columns,
     items: &Option<List<Item>>,
-    standing: &Standing,
+    scope: &AggregateScope,
 ) -> Result<List<SqlType>, SqlFault>
-    ensures { Gives (λ t. t) result (shown.types_of columns.now standing.now items.now) }
+    ensures { Computes (λ t. t) result (shown.types_of columns.now scope.now items.now) }
 {
     match items {
-        None => star_types(alloc, columns, standing),
-        Some(items) => listed_types(alloc, columns, items.as_slice(), standing),
+        None => star_types(alloc, columns, scope),
+        Some(items) => listed_types(alloc, columns, items.as_slice(), scope),
     }
 }
 
 fn star_types(
     alloc: Global,
     columns: &Columns,
-    standing: &Standing,
+    scope: &AggregateScope,
 ) -> Result<List<SqlType>, SqlFault>
-    ensures { Gives (λ t. t) result (each (shown.star_type standing.now) columns.now) }
+    ensures { Computes (λ t. t) result (try_map (shown.star_type scope.now) columns.now) }
 {
     let mut made = List::empty(alloc);
     for c in columns.as_slice() {
-        made.push(star_type(&c.1, standing)?)?;
+        made.push(star_type(&c.1, scope)?)?;
     }
     Ok(made)
 }
 
 /// The type of a column under `*`, which is a breach under GROUP BY.
-pub(crate) fn star_type(column: &Column, standing: &Standing) -> Result<SqlType, SqlFault>
-    ensures { result ≡ typed (meant.is_ungrouped standing.now) (types_meant.kind_type column.now.kind) }
+pub(crate) fn star_type(column: &Column, scope: &AggregateScope) -> Result<SqlType, SqlFault>
+    ensures { result ≡ typed (meant.is_ungrouped scope.now) (types_meant.kind_type column.now.kind) }
 {
-    match standing {
-        Standing::Grouped(_) => Err(SqlFault::TypeFault),
-        Standing::Row => Ok(kind_type(column.kind)),
-        Standing::Item => Ok(kind_type(column.kind)),
+    match scope {
+        AggregateScope::Grouped(_) => Err(SqlFault::TypeFault),
+        AggregateScope::Row => Ok(kind_type(column.kind)),
+        AggregateScope::Item => Ok(kind_type(column.kind)),
     }
 }
 
@@ -57,13 +56,13 @@ fn listed_types(
     alloc: Global,
     columns: &Columns,
     items: &[Item],
-    standing: &Standing,
+    scope: &AggregateScope,
 ) -> Result<List<SqlType>, SqlFault>
-    ensures { Gives (λ t. t) result (each (shown.item_type columns.now standing.now) items.now) }
+    ensures { Computes (λ t. t) result (try_map (shown.item_type columns.now scope.now) items.now) }
 {
     let mut made = List::empty(alloc);
     for item in items {
-        made.push(item_type(columns, item, standing)?)?;
+        made.push(item_type(columns, item, scope)?)?;
     }
     Ok(made)
 }
@@ -72,11 +71,11 @@ fn listed_types(
 pub(crate) fn item_type(
     columns: &Columns,
     item: &Item,
-    standing: &Standing,
+    scope: &AggregateScope,
 ) -> Result<SqlType, SqlFault>
-    ensures { Gives (λ t. t) result (shown.item_type columns.now standing.now item.now) }
+    ensures { Computes (λ t. t) result (shown.item_type columns.now scope.now item.now) }
 {
-    let t = check_in(&item.expr, columns, standing)?;
+    let t = check_in(&item.expr, columns, scope)?;
     if matches!(t, SqlType::Truth) {
         Err(SqlFault::TypeFault)
     } else {
@@ -93,7 +92,7 @@ pub(crate) fn answer(
     group: &List<Row>,
     row: &Row,
 ) -> Result<Row, SqlFault>
-    ensures { Gives (λ r. r) result (shown.answer_of columns.now context.entry.now items.now group.now row.now) }
+    ensures { Computes (λ r. r) result (shown.answer_of columns.now context.entry.now items.now group.now row.now) }
 {
     match items {
         None => Ok(star_cells(alloc, columns, row)?),
@@ -119,7 +118,7 @@ fn listed_cells(
     group: &List<Row>,
     row: &Row,
 ) -> Result<Row, SqlFault>
-    ensures { Gives (λ r. r) result (shown.listed_row columns.now context.entry.now items.now group.now row.now) }
+    ensures { Computes (λ r. r) result (shown.listed_row columns.now context.entry.now items.now group.now row.now) }
 {
     let mut values = List::empty(alloc);
     for item in items {

@@ -12,7 +12,5 @@ mod ordering;
 mod selecting;
 mod sorting;
 mod sources;
-#[cfg(test)]
-mod tests;
 
 pub use selecting::select;

@@ -1,13 +1,13 @@
 // SELECT as a whole.
 ghost use Rattle.std.specs.Prelude.{◌≡◌};
-ghost use Rattle.meaning_sql.specs.Faults.{Gives, next};
+ghost use Rattle.meaning_sql.specs.Faults.{Computes, and_then};
 ghost use Rattle.meaning_statements.specs.Selecting as meant;
 ghost use Rattle.meaning_statements.specs.Sources as sources_meant;
 ghost use Rattle.sql_query.specs.Planning as planning;
 
 use crate::answering::answers;
 use crate::conditions::condition_types;
-use crate::grouping::{group_places, standing_of};
+use crate::grouping::{group_places, scope_of};
 use crate::items::item_types;
 use crate::joining::combined;
 use crate::keys::order_keys;
@@ -15,7 +15,7 @@ use crate::sorting::sorted;
 use crate::sources::{Source, are_few, columns_of, sources_of};
 use dl_base::{Grid, Limit, List, Row, Select, SqlFault};
 use meaning_sql::{Columns, Context};
-use sql_condition::filter_type;
+use sql_expr::filter_type;
 use sql_table::Tables;
 use std::alloc::Global;
 
@@ -30,7 +30,7 @@ pub fn select(
     query: &Select,
     context: &Context,
 ) -> Result<Grid, SqlFault>
-    ensures { Gives (λ g. g.rows) result (meant.select tables.now query.now context.entry.now) }
+    ensures { Computes (λ g. g.rows) result (meant.select tables.now query.now context.entry.now) }
 {
     match over_tables(alloc, tables, query, context) {
         Ok(rows) => Ok(Grid { rows }),
@@ -44,7 +44,7 @@ fn over_tables(
     query: &Select,
     context: &Context,
 ) -> Result<List<Row>, SqlFault>
-    ensures { Gives (λ r. r) result (next (sources_meant.sources_of tables.now query.now.from) (λ s. planning.selected s query.now context.entry.now)) }
+    ensures { Computes (λ r. r) result (and_then (sources_meant.sources_of tables.now query.now.from) (λ s. planning.selected s query.now context.entry.now)) }
 {
     let sources = sources_of(alloc, tables, query.from.as_slice())?;
     selected(alloc, sources.as_slice(), query, context)
@@ -56,7 +56,7 @@ fn selected(
     query: &Select,
     context: &Context,
 ) -> Result<List<Row>, SqlFault>
-    ensures { Gives (λ r. r) result (planning.selected sources.now query.now context.entry.now) }
+    ensures { Computes (λ r. r) result (planning.selected sources.now query.now context.entry.now) }
 {
     let columns = columns_of(alloc, sources)?;
     over_columns(alloc, sources, &columns, query, context)
@@ -72,7 +72,7 @@ fn over_columns(
     context: &Context,
 ) -> Result<List<Row>, SqlFault>
     requires { columns.now ≡ sources_meant.columns_of sources.now }
-    ensures { Gives (λ r. r) result (planning.chosen columns.now sources.now query.now context.entry.now) }
+    ensures { Computes (λ r. r) result (planning.chosen columns.now sources.now query.now context.entry.now) }
 {
     let plan = planned(alloc, columns, query)?;
     if !are_few(sources) {
@@ -91,7 +91,7 @@ fn answered(
     plan: &Plan,
 ) -> Result<List<Row>, SqlFault>
     requires { columns.now ≡ sources_meant.columns_of sources.now }
-    ensures { Gives (λ r. r) result (planning.answered columns.now sources.now query.now context.entry.now plan.now.places plan.now.keys) }
+    ensures { Computes (λ r. r) result (planning.answered columns.now sources.now query.now context.entry.now plan.now.places plan.now.keys) }
 {
     let rows = combined(alloc, sources, query, columns, context)?;
     let made = answers(alloc, query, columns, context, plan.places.as_slice(), rows)?;
@@ -107,19 +107,13 @@ struct Plan {
 
 #[tactic(auto, unfolding(crate::specs::Planning::planned))]
 fn planned(alloc: Global, columns: &Columns, query: &Select) -> Result<Plan, SqlFault>
-    ensures { Gives (λ p. (p.places, p.keys)) result (planning.planned columns.now query.now) }
+    ensures { Computes (λ p. (p.places, p.keys)) result (planning.planned columns.now query.now) }
 {
-    let standing = standing_of(alloc, columns, query)?;
+    let scope = scope_of(alloc, columns, query)?;
     condition_types(alloc, columns, query.conditions.as_slice())?;
-    item_types(alloc, columns, &query.items, &standing)?;
+    item_types(alloc, columns, &query.items, &scope)?;
     filter_type(columns, &query.filter)?;
     let places = group_places(alloc, columns, query.group.as_slice())?;
-    let keys = order_keys(
-        alloc,
-        columns,
-        &query.items,
-        &standing,
-        query.order.as_slice(),
-    )?;
+    let keys = order_keys(alloc, columns, &query.items, &scope, query.order.as_slice())?;
     Ok(Plan { places, keys })
 }

@@ -7,9 +7,9 @@ use Rattle.dl_base.specs.declared.value.Row.{Row}
 use Rattle.dl_base.specs.declared.value.Value.{Value}
 use Rattle.meaning_sql.specs.declared.Context.{Context}
 use Rattle.meaning_sql.specs.Columns.{Columns}
-use Rattle.meaning_sql.specs.Faults.{◌>>=◌, next}
+use Rattle.meaning_sql.specs.Faults.{◌>>=◌, and_then}
 use Rattle.meaning_statements.specs.Changing.{updated_row, updated_rows}
-use Rattle.meaning_statements.specs.Conditions.{holds_all}
+use Rattle.meaning_sql.specs.Conditions.{holds_all}
 
 abbrev pub Rest : Type 0
 Rest = List (ℕ × Row) × (ℕ × ℕ)
@@ -36,7 +36,7 @@ pub one_updated : (all : Columns) (context : Context) (columns : List Column) (c
     (made : List (ℕ × Row)) (count number : ℕ) (row : Row) (rest : List (ℕ × Row)) (met : Bool) (values : List Value) (after : ℕ)
     → holds_all all context conditions row ≡ Ok met
     → (if met then updated_row all context columns places rights k row else Ok (row.values, k)) ≡ Ok (values, after)
-    → next (updated_rows all context columns conditions places rights k ((number, row) ∷ rest)) (behind_all made count)
-    ≡ next (updated_rows all context columns conditions places rights after rest) (behind_all (made ++ (number, record { values = values }) ∷ []) (count + (if met then 1 else 0)))
+    → and_then (updated_rows all context columns conditions places rights k ((number, row) ∷ rest)) (behind_all made count)
+    ≡ and_then (updated_rows all context columns conditions places rights after rest) (behind_all (made ++ (number, record { values = values }) ∷ []) (count + (if met then 1 else 0)))
 one_updated all context columns conditions places rights k made count number row rest met values after holds is =
     rw (holds, is) (behind made count number values (if met then 1 else 0) (updated_rows all context columns conditions places rights after rest))

@@ -1,17 +1,15 @@
 // What is put into the cells of a row.
-ghost use Rattle.std.specs.Prelude.{◌≡◌, ◌==◌, ◌≤◌, IfOk, Ok, length};
-ghost use Rattle.std.specs.List.{position_or_len};
-ghost use Rattle.dl_location.specs.Accessors as location_meant;
-ghost use Rattle.meaning_sql.specs.Faults.{Gives};
+ghost use Rattle.std.specs.Prelude.{◌≡◌, ◌≤◌, IfOk, Ok, length, suc};
+ghost use Rattle.dl_base.specs.Limits.{most_links};
+ghost use Rattle.meaning_sql.specs.Faults.{Computes};
 ghost use Rattle.meaning_sql.specs.Values as values_meant;
 ghost use Rattle.meaning_statements.specs.Assigning as meant;
 
+use dl_base::limits::MOST_LINKS;
 use dl_base::{Column, ColumnRule, Copied, Dl, Kind, Limit, LinkNo, List, Row, SqlFault, Value};
+use dl_location::host_part;
 use sql_expr::cell;
 use std::alloc::Global;
-
-// The highest count of a link number inside its transaction.
-const MOST_LINKS: u32 = 1_000_000;
 
 /// What is put into a cell, and the next link number.
 #[derive(Drop)]
@@ -37,9 +35,9 @@ pub(crate) fn stored_row(
     old: &Row,
     new: &Row,
 ) -> Result<PutRow, SqlFault>
-    requires { first ≤ 1000001 }
-    ensures put { Gives (λ p. (p.values, p.next)) result (meant.stored_row tx first 0 columns.now old.now new.now) }
-    ensures few { IfOk result (λ p. p.next ≤ 1000001) }
+    requires { first ≤ suc most_links }
+    ensures put { Computes (λ p. (p.values, p.next)) result (meant.stored_row tx first 0 columns.now old.now new.now) }
+    ensures few { IfOk result (λ p. p.next ≤ suc most_links) }
 {
     let mut values = List::empty(alloc);
     let mut k = first;
@@ -59,9 +57,9 @@ fn stored_at(
     old: &Row,
     new: &Row,
 ) -> Result<Put, SqlFault>
-    requires { k ≤ 1000001 }
-    ensures put { Gives (λ p. (p.value, p.next)) result (meant.stored tx k column.now (values_meant.cell old.now place) (values_meant.cell new.now place)) }
-    ensures few { IfOk result (λ p. p.next ≤ 1000001) }
+    requires { k ≤ suc most_links }
+    ensures put { Computes (λ p. (p.value, p.next)) result (meant.stored tx k column.now (values_meant.cell old.now place) (values_meant.cell new.now place)) }
+    ensures few { IfOk result (λ p. p.next ≤ suc most_links) }
 {
     let before = cell(old, place)?;
     let value = cell(new, place)?;
@@ -70,9 +68,9 @@ fn stored_at(
 
 #[tactic(auto, unfolding(meaning_statements::specs::Assigning::stored))]
 fn stored(tx: u64, k: u32, column: &Column, old: &Value, new: Value) -> Result<Put, SqlFault>
-    requires { k ≤ 1000001 }
-    ensures put { Gives (λ p. (p.value, p.next)) result (meant.stored tx k column.now old.now new) }
-    ensures few { IfOk result (λ p. p.next ≤ 1000001) }
+    requires { k ≤ suc most_links }
+    ensures put { Computes (λ p. (p.value, p.next)) result (meant.stored tx k column.now old.now new) }
+    ensures few { IfOk result (λ p. p.next ≤ suc most_links) }
 {
     match new {
         Value::Null => {
@@ -124,9 +122,9 @@ fn is_within(kind: Kind, len: usize) -> bool
 }
 
 fn stored_link(tx: u64, k: u32, kind: Kind, old: &Value, link: Dl) -> Result<Put, SqlFault>
-    requires { k ≤ 1000001 }
-    ensures put { Gives (λ p. (p.value, p.next)) result (meant.stored_link tx k kind old.now link) }
-    ensures few { IfOk result (λ p. p.next ≤ 1000001) }
+    requires { k ≤ suc most_links }
+    ensures put { Computes (λ p. (p.value, p.next)) result (meant.stored_link tx k kind old.now link) }
+    ensures few { IfOk result (λ p. p.next ≤ suc most_links) }
 {
     match kind {
         Kind::Linked(_) => {
@@ -144,9 +142,9 @@ fn stored_link(tx: u64, k: u32, kind: Kind, old: &Value, link: Dl) -> Result<Put
 
 // The datalink under the number that the cell keeps, else under the transaction's next one.
 fn numbered(tx: u64, k: u32, link: Dl, own: Option<LinkNo>) -> Result<Put, SqlFault>
-    requires { k ≤ 1000001 }
-    ensures put { Gives (λ p. (p.value, p.next)) result (meant.numbered tx k link own) }
-    ensures few { IfOk result (λ p. p.next ≤ 1000001) }
+    requires { k ≤ suc most_links }
+    ensures put { Computes (λ p. (p.value, p.next)) result (meant.numbered tx k link own) }
+    ensures few { IfOk result (λ p. p.next ≤ suc most_links) }
 {
     if own.is_some() {
         return Ok(Put {
@@ -204,45 +202,4 @@ fn is_same_file(a: &Dl, b: &Dl) -> bool
 {
     host_part(a.location.bytes()) == host_part(b.location.bytes())
         && a.path.bytes() == b.path.bytes()
-}
-
-// What stands between the first two slashes in a row and the next slash or the end.
-fn host_part(location: &[u8]) -> &[u8]
-    ensures { result.now ≡ location_meant.host_part location.now }
-{
-    let behind = behind_slashes(location);
-    let (host, _) = behind.split_at(place_of_slash(behind));
-    host
-}
-
-// The place of the first slash, from 0, or the length where there is none.
-fn place_of_slash(bytes: &[u8]) -> usize
-    ensures value { result ≡ position_or_len (λ b. b == 47) bytes.now }
-    ensures within { result ≤ length bytes.now }
-{
-    bytes.iter().take_while(|b| **b != b'/').count()
-}
-
-// What stands behind the first two slashes in a row, and nothing where there are none.
-fn behind_slashes(bytes: &[u8]) -> &[u8]
-    ensures { result.now ≡ location_meant.behind_slashes bytes.now }
-{
-    let mut rest = bytes;
-    while let Some((first, others)) = rest.split_first() {
-        if *first == b'/' && begins_with_slash(others) {
-            let (_, behind) = others.split_at(1);
-            return behind;
-        }
-        rest = others;
-    }
-    rest
-}
-
-fn begins_with_slash(bytes: &[u8]) -> bool
-    ensures { result ≡ location_meant.begins_with_slash bytes.now }
-{
-    match bytes.first() {
-        Some(b) => *b == b'/',
-        None => false,
-    }
 }

@@ -1,16 +1,15 @@
 // The rows that INSERT puts in, that UPDATE makes, and that DELETE leaves.
-ghost use Rattle.std.specs.Prelude.{◌≡◌, ◌++◌, ◌∷◌, OnOk, ◌+◌, ◌<◌, ◌≤◌, ◌^◌, IfOk, Ok, [], length, map, if◌then◌else◌};
-ghost use Rattle.meaning_sql.specs.Faults.{Gives};
+ghost use Rattle.std.specs.Prelude.{◌≡◌, ◌++◌, ◌∷◌, OnOk, ◌+◌, ◌<◌, ◌≤◌, ◌^◌, IfOk, Ok, [], length, map, if◌then◌else◌, suc};
+ghost use Rattle.dl_base.specs.Limits.{most_links};
+ghost use Rattle.meaning_sql.specs.Faults.{Computes, try_map, option_list};
 ghost use Rattle.meaning_sql.specs.Values.{meaning};
 ghost use Rattle.meaning_statements.specs.Changing as meant;
-ghost use Rattle.meaning_statements.specs.Lists.{each, option_list};
 ghost use Rattle.meaning_tables.specs.Tables.{Rise};
 ghost use Rattle.sql_rows.specs.NewRows.{tuple_rows, counted};
 
 use crate::cells::{PutRow, stored_row};
 use dl_base::{Column, Copied, Expr, List, Memory, Name, Row, SqlFault, Value};
-use sql_condition::filter_holds;
-use sql_expr::{Columns, Context, cell, value};
+use sql_expr::{Columns, Context, cell, filter_holds, value};
 use sql_table::Table;
 use std::alloc::Global;
 
@@ -42,7 +41,7 @@ fn evaluated(
     columns: &Columns,
     context: &Context,
 ) -> Result<List<Value>, SqlFault>
-    ensures { Gives (λ v. v) result (each (λ e. meaning columns.now context.entry.now [] e row.now) exprs.now) }
+    ensures { Computes (λ v. v) result (try_map (λ e. meaning columns.now context.entry.now [] e row.now) exprs.now) }
 {
     let mut values = List::empty(alloc);
     for expr in exprs.as_slice() {
@@ -53,7 +52,7 @@ fn evaluated(
 
 // The value for the column at a place: that of the tuple where the column is named, else NULL.
 fn value_for(places: &List<usize>, tuple: &Row, place: usize) -> Result<Value, SqlFault>
-    ensures { Gives (λ v. v) result (Ok (meant.value_for 0 places.now tuple.now place)) }
+    ensures { Computes (λ v. v) result (Ok (meant.value_for 0 places.now tuple.now place)) }
 {
     for (j, p) in places.as_slice().iter().enumerate() {
         if *p == place {
@@ -69,7 +68,7 @@ fn arranged(
     places: &List<usize>,
     tuple: &Row,
 ) -> Result<List<Value>, SqlFault>
-    ensures { Gives (λ v. v) result (Ok (meant.arranged 0 columns.now places.now tuple.now)) }
+    ensures { Computes (λ v. v) result (Ok (meant.arranged 0 columns.now places.now tuple.now)) }
 {
     let mut values = List::empty(alloc);
     for (i, _column) in columns.as_slice().iter().enumerate() {
@@ -89,9 +88,9 @@ fn inserted_row(
     k: u32,
     tuple: &List<Expr>,
 ) -> Result<PutRow, SqlFault>
-    requires { k ≤ 1000001 }
-    ensures put { Gives (λ p. (p.values, p.next)) result (meant.inserted_row context.entry.now seen.now at.now columns.now places.now k tuple.now) }
-    ensures few { IfOk result (λ p. p.next ≤ 1000001) }
+    requires { k ≤ suc most_links }
+    ensures put { Computes (λ p. (p.values, p.next)) result (meant.inserted_row context.entry.now seen.now at.now columns.now places.now k tuple.now) }
+    ensures few { IfOk result (λ p. p.next ≤ suc most_links) }
 {
     let values = evaluated(alloc, tuple, at, seen, context)?;
     let values = arranged(alloc, columns, places, &Row { values })?;
@@ -113,9 +112,9 @@ pub fn tuple_rows(
     first: u32,
     tuples: &List<List<Expr>>,
 ) -> Result<NewRows, SqlFault>
-    requires { first ≤ 1000001 }
-    ensures put { Gives (λ p. (p.rows, p.next)) result (tuple_rows context.entry.now seen.now at.now columns.now places.now first tuples.now) }
-    ensures few { IfOk result (λ p. p.next ≤ 1000001) }
+    requires { first ≤ suc most_links }
+    ensures put { Computes (λ p. (p.rows, p.next)) result (tuple_rows context.entry.now seen.now at.now columns.now places.now first tuples.now) }
+    ensures few { IfOk result (λ p. p.next ≤ suc most_links) }
     ensures one_each { IfOk result (λ p. length p.rows ≡ length tuples.now) }
 {
     let mut rows = List::empty(alloc);
@@ -176,7 +175,7 @@ pub fn remaining(
     context: &Context,
     filter: &Option<Expr>,
 ) -> Result<List<(u64, Row)>, SqlFault>
-    ensures rows { Gives (λ v. v) result (meant.remaining columns.now context.entry.now (option_list filter.now) table.now.rows) }
+    ensures rows { Computes (λ v. v) result (meant.remaining columns.now context.entry.now (option_list filter.now) table.now.rows) }
     ensures rise { IfOk result (λ made. Rise 0 table.now.next made) }
 {
     let mut made = List::empty(alloc);
@@ -202,7 +201,7 @@ fn set_values(
     columns: &Columns,
     context: &Context,
 ) -> Result<List<Value>, SqlFault>
-    ensures { Gives (λ v. v) result (each (λ e. meaning columns.now context.entry.now [] e row.now) (map (λ s. s.1) sets.now)) }
+    ensures { Computes (λ v. v) result (try_map (λ e. meaning columns.now context.entry.now [] e row.now) (map (λ s. s.1) sets.now)) }
 {
     let mut values = List::empty(alloc);
     for set in sets.as_slice() {
@@ -213,7 +212,7 @@ fn set_values(
 
 // The new value of the column at a place where it is set, else the old one.
 fn new_cell(places: &List<usize>, news: &Row, place: usize, old: &Value) -> Result<Value, SqlFault>
-    ensures { Gives (λ v. v) result (Ok (meant.new_cell 0 places.now news.now place old.now)) }
+    ensures { Computes (λ v. v) result (Ok (meant.new_cell 0 places.now news.now place old.now)) }
 {
     for (j, p) in places.as_slice().iter().enumerate() {
         if *p == place {
@@ -229,7 +228,7 @@ fn with_cells(
     news: &Row,
     old: &Row,
 ) -> Result<List<Value>, SqlFault>
-    ensures { Gives (λ v. v) result (Ok (meant.with_cells places.now news.now 0 old.now.values)) }
+    ensures { Computes (λ v. v) result (Ok (meant.with_cells places.now news.now 0 old.now.values)) }
 {
     let mut values = List::empty(alloc);
     for (i, before) in old.values.as_slice().iter().enumerate() {
@@ -249,9 +248,9 @@ fn updated_row(
     k: u32,
     row: &Row,
 ) -> Result<PutRow, SqlFault>
-    requires { k ≤ 1000001 }
-    ensures put { Gives (λ p. (p.values, p.next)) result (meant.updated_row all.now context.entry.now columns.now places.now (map (λ s. s.1) sets.now) k row.now) }
-    ensures few { IfOk result (λ p. p.next ≤ 1000001) }
+    requires { k ≤ suc most_links }
+    ensures put { Computes (λ p. (p.values, p.next)) result (meant.updated_row all.now context.entry.now columns.now places.now (map (λ s. s.1) sets.now) k row.now) }
+    ensures few { IfOk result (λ p. p.next ≤ suc most_links) }
 {
     let values = set_values(alloc, sets, row, all, context)?;
     let values = with_cells(alloc, places, &Row { values }, row)?;
@@ -270,9 +269,9 @@ fn row_after(
     k: u32,
     row: &Row,
 ) -> Result<PutRow, SqlFault>
-    requires { k ≤ 1000001 }
-    ensures put { Gives (λ p. (p.values, p.next)) result (if met then meant.updated_row all.now context.entry.now columns.now places.now (map (λ s. s.1) sets.now) k row.now else Ok (row.now.values, k)) }
-    ensures few { IfOk result (λ p. p.next ≤ 1000001) }
+    requires { k ≤ suc most_links }
+    ensures put { Computes (λ p. (p.values, p.next)) result (if met then meant.updated_row all.now context.entry.now columns.now places.now (map (λ s. s.1) sets.now) k row.now else Ok (row.now.values, k)) }
+    ensures few { IfOk result (λ p. p.next ≤ suc most_links) }
 {
     if met {
         updated_row(alloc, all, context, columns, places, sets, k, row)
@@ -297,9 +296,9 @@ pub fn updated_rows(
     sets: &List<(Name, Expr)>,
     first: u32,
 ) -> Result<Updated, SqlFault>
-    requires { first ≤ 1000001 }
-    ensures put { Gives (λ u. (u.rows, (u.next, u.met))) result (meant.updated_rows all.now context.entry.now table.now.columns (option_list filter.now) places.now (map (λ s. s.1) sets.now) first table.now.rows) }
-    ensures few { IfOk result (λ u. u.next ≤ 1000001) }
+    requires { first ≤ suc most_links }
+    ensures put { Computes (λ u. (u.rows, (u.next, u.met))) result (meant.updated_rows all.now context.entry.now table.now.columns (option_list filter.now) places.now (map (λ s. s.1) sets.now) first table.now.rows) }
+    ensures few { IfOk result (λ u. u.next ≤ suc most_links) }
     ensures rise { IfOk result (λ u. Rise 0 table.now.next u.rows) }
 {
     let mut rows = List::empty(alloc);

@@ -4,13 +4,14 @@ use Rattle.dl_base.specs.declared.statement.Stmt.{Stmt}
 use Rattle.sql_lex.specs.declared.lexeme.Lexeme.{Lexeme}
 use Rattle.sql_lex.specs.Lexes.{Lexes, IsBad}
 use Rattle.sql_grammar.specs.declared.terminal.Terminal.{Terminal}
-use Rattle.sql_grammar.specs.Lang.{whole_at, IsFaultOf}
+use Rattle.sql_grammar.specs.Readers.{whole_at}
+use Rattle.sql_grammar.specs.Lang.{IsFaultOf}
 use Rattle.sql_grammar.specs.Statements.{Statement}
 use Rattle.sql_grammar.specs.Reading.{statement_at}
 use Rattle.sql_grammar.specs.Meaning.{terminals}
 use Rattle.sql_syntax.specs.declared.parser.ParseFault.{ParseFault}
 use Rattle.sql_syntax.specs.declared.parser.ParseFault.TheVariants as fault
-use Rattle.sql_syntax.specs.Parsing.{place_in, Parses, Agrees, Shown}
+use Rattle.sql_syntax.specs.Parsing.{place_in, Parses, Agrees, AnswersParsing}
 use Rattle.sql_grammar.proofs.Whole.{IsExactOf, whole_reads, same_fault}
 use Rattle.sql_grammar.proofs.Statements.{AtEnd, reads_statement}
 use Rattle.sql_syntax.proofs.Parsed.{Alone, exact, is_exact, is_only, is_bad_only}
@@ -23,7 +24,7 @@ abbrev pub shown : List ℕ → List Lexeme → Result Stmt ℕ → Result Stmt 
 shown text xs (Ok s) = Ok s
 shown text xs (Err k) = Err (fault.Syntax (place_in text xs k))
 
-is_shown : (text : List ℕ) (xs : List Lexeme) (read : Result Stmt ℕ) → Shown text xs (shown text xs read) read
+is_shown : (text : List ℕ) (xs : List Lexeme) (read : Result Stmt ℕ) → AnswersParsing text xs (shown text xs read) read
 is_shown text xs (Ok s) = refl
 is_shown text xs (Err k) = (k, refl, refl)
 

@@ -4,7 +4,8 @@ use Rattle.dl_base.specs.declared.statement.Stmt.{Stmt}
 use Rattle.sql_lex.specs.declared.lexeme.Lexeme.{Lexeme}
 use Rattle.sql_lex.specs.Lexes.{Lexes, IsBad}
 use Rattle.sql_grammar.specs.declared.terminal.Terminal.{Terminal}
-use Rattle.sql_grammar.specs.Lang.{whole_at, IsFaultOf}
+use Rattle.sql_grammar.specs.Readers.{whole_at}
+use Rattle.sql_grammar.specs.Lang.{IsFaultOf}
 use Rattle.sql_grammar.specs.Statements.{Statement}
 use Rattle.sql_grammar.specs.Reading.{statement_at}
 use Rattle.sql_grammar.proofs.Whole.{IsExactOf, exact_of, whole_reads, same_fault}
@@ -12,12 +13,12 @@ use Rattle.sql_grammar.proofs.Statements.{AtEnd, has_statement, reads_statement}
 use Rattle.sql_syntax.specs.declared.parser.ParseFault.{ParseFault}
 use Rattle.sql_syntax.specs.declared.parser.ParseFault.TheVariants as fault
 use Rattle.sql_grammar.specs.Meaning.{terminals}
-use Rattle.sql_syntax.specs.Parsing.{place_in, Parses, Agrees, Shown}
+use Rattle.sql_syntax.specs.Parsing.{place_in, Parses, Agrees, AnswersParsing}
 
 pub exact : (ws : List Terminal) → IsExactOf Statement ws (whole_at statement_at ws)
 exact ws = exact_of statement_at Statement AtEnd ws has_statement reads_statement refl
 
-pub is_exact : (text : List ℕ) (xs : List Lexeme) (r : Result Stmt ParseFault) → Lexes 1 text xs → Shown text xs r (whole_at statement_at (terminals xs)) → Parses text r
+pub is_exact : (text : List ℕ) (xs : List Lexeme) (r : Result Stmt ParseFault) → Lexes 1 text xs → AnswersParsing text xs r (whole_at statement_at (terminals xs)) → Parses text r
 is_exact text xs (Ok s) l h = (xs, l, subst (IsExactOf Statement (terminals xs)) h (exact (terminals xs)))
 is_exact text xs (Err (fault.BadChar p)) l h = absurd h
 is_exact text xs (Err (fault.Syntax p)) l h = (xs, h.0, l, subst (IsExactOf Statement (terminals xs)) h.1 (exact (terminals xs)), h.2)
@@ -34,7 +35,7 @@ same_err : (xs ys : List Lexeme) (j k : ℕ) → ys ≡ xs → IsFaultOf Stateme
 same_err xs ys j k same f e =
     same_fault Statement (terminals xs) j k (subst (λ (zs : List Lexeme). IsFaultOf Statement (terminals zs) j) same f) (subst (IsExactOf Statement (terminals xs)) e (exact (terminals xs)))
 
-pub is_only : (text : List ℕ) (xs : List Lexeme) (r : Result Stmt ParseFault) → Alone text xs → Shown text xs r (whole_at statement_at (terminals xs)) → (q : Result Stmt ParseFault) → Parses text q → Agrees r q
+pub is_only : (text : List ℕ) (xs : List Lexeme) (r : Result Stmt ParseFault) → Alone text xs → AnswersParsing text xs r (whole_at statement_at (terminals xs)) → (q : Result Stmt ParseFault) → Parses text q → Agrees r q
 is_only text xs (Err fault.Memory) alone h q p = tt
 is_only text xs (Ok s) alone h (Ok t) p = let e : Ok s ≡ Ok t = sym h ∙ same_ok text xs p.0 t (sym (alone.0 p.0 p.1)) p.2 in cc
 is_only text xs (Ok s) alone h (Err (fault.BadChar k)) p = absurd (alone.1 k p)

@@ -1,4 +1,4 @@
--- What a text means.
+-- The language: what the grammar answers to a text. Read Statements and Meaning of sql_grammar first.
 use Rattle.std.specs.Prelude.{◌≡◌, ℕ, suc, List, length, map, Option, Some, None, slice_get, Result, Ok, Err}
 use Rattle.dl_base.specs.declared.statement.Stmt.{Stmt}
 use Rattle.sql_lex.specs.declared.lexeme.Lexeme.{Lexeme}
@@ -43,8 +43,8 @@ Agrees q (Err fault.Memory) = Unit {0}
 Agrees q r = q ≡ r
 
 -- the answer is what was read of the lexemes of a text
-abbrev pub Shown : List ℕ → List Lexeme → Result Stmt ParseFault → Result Stmt ℕ → Type 0
-Shown text xs (Ok s) read = read ≡ Ok s
-Shown text xs (Err (fault.BadChar p)) read = ⊥
-Shown text xs (Err (fault.Syntax p)) read = (k : ℕ) × (read ≡ Err k) × (p ≡ place_in text xs k)
-Shown text xs (Err fault.Memory) read = Unit {0}
+abbrev pub AnswersParsing : List ℕ → List Lexeme → Result Stmt ParseFault → Result Stmt ℕ → Type 0
+AnswersParsing text xs (Ok s) read = read ≡ Ok s
+AnswersParsing text xs (Err (fault.BadChar p)) read = ⊥
+AnswersParsing text xs (Err (fault.Syntax p)) read = (k : ℕ) × (read ≡ Err k) × (p ≡ place_in text xs k)
+AnswersParsing text xs (Err fault.Memory) read = Unit {0}

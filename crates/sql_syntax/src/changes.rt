@@ -1,11 +1,11 @@
 // INSERT, UPDATE and DELETE.
 ghost use Rattle.std.specs.Prelude.{◌≡◌};
 ghost use Rattle.sql_grammar.specs.Reading.{tuple_at, columns_at, insert_at, filter_at, assigned_at, update_at, delete_at};
-ghost use Rattle.sql_precedence.specs.Results.{Gives};
+ghost use Rattle.sql_precedence.specs.Results.{AnswersReading};
 
 use crate::part::commas;
 use dl_base::{Expr, List, Name, Stmt};
-use sql_grammar::{Mark, Terminal};
+use sql_grammar::{Symbol, Terminal};
 use sql_precedence::{Refused, expect, expression, name, stands};
 use std::alloc::Global;
 
@@ -16,11 +16,11 @@ pub fn tuple(
     terminals: &[Terminal],
     at: usize,
 ) -> Result<(List<Expr>, usize), Refused>
-    ensures { Gives result (tuple_at terminals.now at) }
+    ensures { AnswersReading result (tuple_at terminals.now at) }
 {
-    let at = expect(terminals, at, Mark::Open)?;
+    let at = expect(terminals, at, Symbol::Open)?;
     let (values, at) = commas::<Expr>(alloc, terminals, at)?;
-    let at = expect(terminals, at, Mark::Close)?;
+    let at = expect(terminals, at, Symbol::Close)?;
     Ok((values, at))
 }
 
@@ -31,25 +31,25 @@ fn columns(
     terminals: &[Terminal],
     at: usize,
 ) -> Result<(Option<List<Name>>, usize), Refused>
-    ensures { Gives result (columns_at terminals.now at) }
+    ensures { AnswersReading result (columns_at terminals.now at) }
 {
-    if !stands(terminals, at, Mark::Open) {
+    if !stands(terminals, at, Symbol::Open) {
         return Ok((None, at));
     }
     let (names, at) = commas::<Name>(alloc, terminals, at + 1)?;
-    let at = expect(terminals, at, Mark::Close)?;
+    let at = expect(terminals, at, Symbol::Close)?;
     Ok((Some(names), at))
 }
 
 /// INTO name [( name {, name} )] VALUES tuple {, tuple}
 #[tactic(auto, unfolding(sql_grammar::specs::Reading::insert_at))]
 pub fn insert(alloc: Global, terminals: &[Terminal], at: usize) -> Result<(Stmt, usize), Refused>
-    ensures { Gives result (insert_at terminals.now at) }
+    ensures { AnswersReading result (insert_at terminals.now at) }
 {
-    let at = expect(terminals, at, Mark::Into)?;
+    let at = expect(terminals, at, Symbol::Into)?;
     let (table, at) = name(terminals, at)?;
     let (columns, at) = columns(alloc, terminals, at)?;
-    let at = expect(terminals, at, Mark::Values)?;
+    let at = expect(terminals, at, Symbol::Values)?;
     let (tuples, at) = commas::<List<Expr>>(alloc, terminals, at)?;
     Ok((Stmt::Insert(table, columns, tuples), at))
 }
@@ -61,9 +61,9 @@ pub fn filter(
     terminals: &[Terminal],
     at: usize,
 ) -> Result<(Option<Expr>, usize), Refused>
-    ensures { Gives result (filter_at terminals.now at) }
+    ensures { AnswersReading result (filter_at terminals.now at) }
 {
-    if !stands(terminals, at, Mark::Where) {
+    if !stands(terminals, at, Symbol::Where) {
         return Ok((None, at));
     }
     let (condition, at) = expression(alloc, terminals, at + 1)?;
@@ -77,10 +77,10 @@ pub fn assigned(
     terminals: &[Terminal],
     at: usize,
 ) -> Result<((Name, Expr), usize), Refused>
-    ensures { Gives result (assigned_at terminals.now at) }
+    ensures { AnswersReading result (assigned_at terminals.now at) }
 {
     let (column, at) = name(terminals, at)?;
-    let at = expect(terminals, at, Mark::Equal)?;
+    let at = expect(terminals, at, Symbol::Equal)?;
     let (value, at) = expression(alloc, terminals, at)?;
     Ok(((column, value), at))
 }
@@ -88,10 +88,10 @@ pub fn assigned(
 /// name SET name = expr {, name = expr} [WHERE expr]
 #[tactic(auto, unfolding(sql_grammar::specs::Reading::update_at))]
 pub fn update(alloc: Global, terminals: &[Terminal], at: usize) -> Result<(Stmt, usize), Refused>
-    ensures { Gives result (update_at terminals.now at) }
+    ensures { AnswersReading result (update_at terminals.now at) }
 {
     let (table, at) = name(terminals, at)?;
-    let at = expect(terminals, at, Mark::Set)?;
+    let at = expect(terminals, at, Symbol::Set)?;
     let (values, at) = commas::<(Name, Expr)>(alloc, terminals, at)?;
     let (condition, at) = filter(alloc, terminals, at)?;
     Ok((Stmt::Update(table, values, condition), at))
@@ -100,9 +100,9 @@ pub fn update(alloc: Global, terminals: &[Terminal], at: usize) -> Result<(Stmt,
 /// FROM name [WHERE expr]
 #[tactic(auto, unfolding(sql_grammar::specs::Reading::delete_at))]
 pub fn delete(alloc: Global, terminals: &[Terminal], at: usize) -> Result<(Stmt, usize), Refused>
-    ensures { Gives result (delete_at terminals.now at) }
+    ensures { AnswersReading result (delete_at terminals.now at) }
 {
-    let at = expect(terminals, at, Mark::From)?;
+    let at = expect(terminals, at, Symbol::From)?;
     let (table, at) = name(terminals, at)?;
     let (condition, at) = filter(alloc, terminals, at)?;
     Ok((Stmt::Delete(table, condition), at))

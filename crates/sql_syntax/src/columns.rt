@@ -1,23 +1,23 @@
 // CREATE TABLE and DROP TABLE.
 ghost use Rattle.std.specs.Prelude.{◌≡◌, IfOk};
-ghost use Rattle.sql_grammar.specs.Lang.{token_at, listed_at, enclosed_at};
+ghost use Rattle.sql_grammar.specs.Readers.{token_at, listed_at, enclosed_at};
 ghost use Rattle.std.specs.List.{count_by};
 ghost use Rattle.sql_grammar.specs.Statements.{is_not_null, is_key};
 ghost use Rattle.sql_grammar.specs.Reading.{rule_at, integrity_at, read_at, write_at, yes_no_at, unlink_at, unlinking_at, recovery_at, writing_at, reading_at, choices_at, filed_at, control_at, datalink_at, kind_at, column_at, create_at, drop_at};
-ghost use Rattle.sql_precedence.specs.Results.{Gives};
+ghost use Rattle.sql_precedence.specs.Results.{AnswersReading};
 
 use crate::part::{commas, many};
 use dl_base::{
     ColumnDef, ColumnRule, Integrity, KindDef, List, Memory, OnUnlink, ReadBy, Stmt, WriteBy,
 };
-use sql_grammar::{LinkWord, Mark, Terminal};
+use sql_grammar::{LinkWord, Symbol, Terminal};
 use sql_precedence::{Refused, expect, expect_word, name, number, says, stands};
 use std::alloc::Global;
 
 // ALL | SELECTIVE | NONE
-#[tactic(auto, unfolding(sql_grammar::specs::Reading::integrity_at, sql_grammar::specs::Lang::token_at))]
+#[tactic(auto, unfolding(sql_grammar::specs::Reading::integrity_at, sql_grammar::specs::Readers::token_at))]
 fn integrity(terminals: &[Terminal], at: usize) -> Result<(Integrity, usize), Refused>
-    ensures { Gives result (integrity_at terminals.now at) }
+    ensures { AnswersReading result (integrity_at terminals.now at) }
 {
     if says(terminals, at, LinkWord::All) {
         Ok((Integrity::All, at + 1))
@@ -32,7 +32,7 @@ fn integrity(terminals: &[Terminal], at: usize) -> Result<(Integrity, usize), Re
 // FS | DB
 #[tactic(auto, unfolding(sql_grammar::specs::Reading::read_at))]
 fn read(terminals: &[Terminal], at: usize) -> Result<(ReadBy, usize), Refused>
-    ensures { Gives result (read_at terminals.now at) }
+    ensures { AnswersReading result (read_at terminals.now at) }
 {
     if says(terminals, at, LinkWord::Fs) {
         Ok((ReadBy::Fs, at + 1))
@@ -45,7 +45,7 @@ fn read(terminals: &[Terminal], at: usize) -> Result<(ReadBy, usize), Refused>
 // FS | BLOCKED | ADMIN
 #[tactic(auto, unfolding(sql_grammar::specs::Reading::write_at))]
 fn write(terminals: &[Terminal], at: usize) -> Result<(WriteBy, usize), Refused>
-    ensures { Gives result (write_at terminals.now at) }
+    ensures { AnswersReading result (write_at terminals.now at) }
 {
     if says(terminals, at, LinkWord::Fs) {
         Ok((WriteBy::Fs, at + 1))
@@ -60,7 +60,7 @@ fn write(terminals: &[Terminal], at: usize) -> Result<(WriteBy, usize), Refused>
 // YES | NO
 #[tactic(auto, unfolding(sql_grammar::specs::Reading::yes_no_at))]
 fn yes_no(terminals: &[Terminal], at: usize) -> Result<(bool, usize), Refused>
-    ensures { Gives result (yes_no_at terminals.now at) }
+    ensures { AnswersReading result (yes_no_at terminals.now at) }
 {
     if says(terminals, at, LinkWord::Yes) {
         Ok((true, at + 1))
@@ -73,11 +73,11 @@ fn yes_no(terminals: &[Terminal], at: usize) -> Result<(bool, usize), Refused>
 // RESTORE | DELETE | NONE
 #[tactic(auto, unfolding(sql_grammar::specs::Reading::unlink_at))]
 fn unlink(terminals: &[Terminal], at: usize) -> Result<(OnUnlink, usize), Refused>
-    ensures { Gives result (unlink_at terminals.now at) }
+    ensures { AnswersReading result (unlink_at terminals.now at) }
 {
     if says(terminals, at, LinkWord::Restore) {
         Ok((OnUnlink::Restore, at + 1))
-    } else if stands(terminals, at, Mark::Delete) {
+    } else if stands(terminals, at, Symbol::Delete) {
         Ok((OnUnlink::Delete, at + 1))
     } else {
         let at = expect_word(terminals, at, LinkWord::None)?;
@@ -88,9 +88,9 @@ fn unlink(terminals: &[Terminal], at: usize) -> Result<(OnUnlink, usize), Refuse
 // [ON UNLINK (RESTORE | DELETE | NONE)]
 #[tactic(auto, unfolding(sql_grammar::specs::Reading::unlinking_at))]
 fn unlinking(terminals: &[Terminal], at: usize) -> Result<(OnUnlink, usize), Refused>
-    ensures { Gives result (unlinking_at terminals.now at) }
+    ensures { AnswersReading result (unlinking_at terminals.now at) }
 {
-    if stands(terminals, at, Mark::On) {
+    if stands(terminals, at, Symbol::On) {
         let at = expect_word(terminals, at + 1, LinkWord::Unlink)?;
         unlink(terminals, at)
     } else {
@@ -101,7 +101,7 @@ fn unlinking(terminals: &[Terminal], at: usize) -> Result<(OnUnlink, usize), Ref
 // RECOVERY (YES | NO) [ON UNLINK ..]
 #[tactic(auto, unfolding(sql_grammar::specs::Reading::recovery_at))]
 fn recovery(terminals: &[Terminal], at: usize) -> Result<((bool, OnUnlink), usize), Refused>
-    ensures { Gives result (recovery_at terminals.now at) }
+    ensures { AnswersReading result (recovery_at terminals.now at) }
 {
     let at = expect_word(terminals, at, LinkWord::Recovery)?;
     let (recovers, at) = yes_no(terminals, at)?;
@@ -115,7 +115,7 @@ fn writing(
     terminals: &[Terminal],
     at: usize,
 ) -> Result<((WriteBy, (bool, OnUnlink)), usize), Refused>
-    ensures { Gives result (writing_at terminals.now at) }
+    ensures { AnswersReading result (writing_at terminals.now at) }
 {
     let at = expect_word(terminals, at, LinkWord::Write)?;
     let at = expect_word(terminals, at, LinkWord::Permission)?;
@@ -130,7 +130,7 @@ fn reading(
     terminals: &[Terminal],
     at: usize,
 ) -> Result<((ReadBy, (WriteBy, (bool, OnUnlink))), usize), Refused>
-    ensures { Gives result (reading_at terminals.now at) }
+    ensures { AnswersReading result (reading_at terminals.now at) }
 {
     let at = expect_word(terminals, at, LinkWord::Read)?;
     let at = expect_word(terminals, at, LinkWord::Permission)?;
@@ -142,7 +142,7 @@ fn reading(
 // INTEGRITY (ALL | SELECTIVE | NONE) READ ..
 #[tactic(auto, unfolding(sql_grammar::specs::Reading::choices_at))]
 fn choices(terminals: &[Terminal], at: usize) -> Result<(KindDef, usize), Refused>
-    ensures { Gives result (choices_at terminals.now at) }
+    ensures { AnswersReading result (choices_at terminals.now at) }
 {
     let at = expect_word(terminals, at, LinkWord::Integrity)?;
     let (integrity, at) = integrity(terminals, at)?;
@@ -156,7 +156,7 @@ fn choices(terminals: &[Terminal], at: usize) -> Result<(KindDef, usize), Refuse
 // MODE DB2OPTIONS | choices
 #[tactic(auto, unfolding(sql_grammar::specs::Reading::filed_at))]
 fn filed(terminals: &[Terminal], at: usize) -> Result<(KindDef, usize), Refused>
-    ensures { Gives result (filed_at terminals.now at) }
+    ensures { AnswersReading result (filed_at terminals.now at) }
 {
     if says(terminals, at, LinkWord::Mode) {
         let at = expect_word(terminals, at + 1, LinkWord::Db2options)?;
@@ -169,7 +169,7 @@ fn filed(terminals: &[Terminal], at: usize) -> Result<(KindDef, usize), Refused>
 // [NO LINK CONTROL | FILE LINK CONTROL (MODE DB2OPTIONS | choices)]
 #[tactic(auto, unfolding(sql_grammar::specs::Reading::control_at))]
 fn control(terminals: &[Terminal], at: usize) -> Result<(KindDef, usize), Refused>
-    ensures { Gives result (control_at terminals.now at) }
+    ensures { AnswersReading result (control_at terminals.now at) }
 {
     if says(terminals, at, LinkWord::No) {
         let at = expect_word(terminals, at + 1, LinkWord::Link)?;
@@ -187,7 +187,7 @@ fn control(terminals: &[Terminal], at: usize) -> Result<(KindDef, usize), Refuse
 // [LINKTYPE URL] [control]
 #[tactic(auto, unfolding(sql_grammar::specs::Reading::datalink_at))]
 fn datalink(terminals: &[Terminal], at: usize) -> Result<(KindDef, usize), Refused>
-    ensures { Gives result (datalink_at terminals.now at) }
+    ensures { AnswersReading result (datalink_at terminals.now at) }
 {
     if says(terminals, at, LinkWord::Linktype) {
         let at = expect_word(terminals, at + 1, LinkWord::Url)?;
@@ -200,19 +200,19 @@ fn datalink(terminals: &[Terminal], at: usize) -> Result<(KindDef, usize), Refus
 // INTEGER | BIGINT | VARCHAR ( number ) | DATALINK ..
 #[tactic(auto, unfolding(sql_grammar::specs::Reading::kind_at))]
 fn kind(terminals: &[Terminal], at: usize) -> Result<(KindDef, usize), Refused>
-    ensures { Gives result (kind_at terminals.now at) }
+    ensures { AnswersReading result (kind_at terminals.now at) }
 {
-    if stands(terminals, at, Mark::Integer) {
+    if stands(terminals, at, Symbol::Integer) {
         Ok((KindDef::Integer, at + 1))
-    } else if stands(terminals, at, Mark::Bigint) {
+    } else if stands(terminals, at, Symbol::Bigint) {
         Ok((KindDef::Integer, at + 1))
-    } else if stands(terminals, at, Mark::Varchar) {
-        let at = expect(terminals, at + 1, Mark::Open)?;
+    } else if stands(terminals, at, Symbol::Varchar) {
+        let at = expect(terminals, at + 1, Symbol::Open)?;
         let (length, at) = number(terminals, at)?;
-        let at = expect(terminals, at, Mark::Close)?;
+        let at = expect(terminals, at, Symbol::Close)?;
         Ok((KindDef::Varchar(length), at))
     } else {
-        let at = expect(terminals, at, Mark::Datalink)?;
+        let at = expect(terminals, at, Symbol::Datalink)?;
         datalink(terminals, at)
     }
 }
@@ -220,14 +220,14 @@ fn kind(terminals: &[Terminal], at: usize) -> Result<(KindDef, usize), Refused>
 // NOT NULL | PRIMARY KEY
 #[tactic(auto, unfolding(sql_grammar::specs::Reading::rule_at))]
 pub fn rule(terminals: &[Terminal], at: usize) -> Result<(ColumnRule, usize), Refused>
-    ensures { Gives result (rule_at terminals.now at) }
+    ensures { AnswersReading result (rule_at terminals.now at) }
 {
-    if stands(terminals, at, Mark::Not) {
-        let at = expect(terminals, at + 1, Mark::Null)?;
+    if stands(terminals, at, Symbol::Not) {
+        let at = expect(terminals, at + 1, Symbol::Null)?;
         Ok((ColumnRule::NotNull, at))
     } else {
-        let at = expect(terminals, at, Mark::Primary)?;
-        let at = expect(terminals, at, Mark::Key)?;
+        let at = expect(terminals, at, Symbol::Primary)?;
+        let at = expect(terminals, at, Symbol::Key)?;
         Ok((ColumnRule::Key, at))
     }
 }
@@ -261,7 +261,7 @@ pub fn column(
     terminals: &[Terminal],
     at: usize,
 ) -> Result<(ColumnDef, usize), Refused>
-    ensures { Gives result (column_at terminals.now at) }
+    ensures { AnswersReading result (column_at terminals.now at) }
 {
     let (name, at) = name(terminals, at)?;
     let (kind, at) = kind(terminals, at)?;
@@ -282,22 +282,22 @@ pub fn column(
 /// TABLE name ( column {, column} )
 #[tactic(auto, unfolding(sql_grammar::specs::Reading::create_at))]
 pub fn create(alloc: Global, terminals: &[Terminal], at: usize) -> Result<(Stmt, usize), Refused>
-    ensures { Gives result (create_at terminals.now at) }
+    ensures { AnswersReading result (create_at terminals.now at) }
 {
-    let at = expect(terminals, at, Mark::Table)?;
+    let at = expect(terminals, at, Symbol::Table)?;
     let (table, at) = name(terminals, at)?;
-    let at = expect(terminals, at, Mark::Open)?;
+    let at = expect(terminals, at, Symbol::Open)?;
     let (columns, at) = commas::<ColumnDef>(alloc, terminals, at)?;
-    let at = expect(terminals, at, Mark::Close)?;
+    let at = expect(terminals, at, Symbol::Close)?;
     Ok((Stmt::CreateTable(table, columns), at))
 }
 
 /// TABLE name
 #[tactic(auto, unfolding(sql_grammar::specs::Reading::drop_at))]
 pub fn drop_table(terminals: &[Terminal], at: usize) -> Result<(Stmt, usize), Refused>
-    ensures { Gives result (drop_at terminals.now at) }
+    ensures { AnswersReading result (drop_at terminals.now at) }
 {
-    let at = expect(terminals, at, Mark::Table)?;
+    let at = expect(terminals, at, Symbol::Table)?;
     let (table, at) = name(terminals, at)?;
     Ok((Stmt::DropTable(table), at))
 }

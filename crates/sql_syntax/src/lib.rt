@@ -8,8 +8,6 @@ mod parser;
 mod part;
 mod query;
 mod sentence;
-#[cfg(test)]
-mod tests;
 
 pub use laws::one_answer;
 pub use parser::{ParseFault, parse};

@@ -1,18 +1,18 @@
 // Statements from text.
 ghost use Rattle.std.specs.Prelude.{◌≡◌, Result, ◌+◌, ◌≤◌, IfOk, length, slice_get};
 ghost use Rattle.dl_base.specs.declared.statement.Stmt.{Stmt as Tree};
-ghost use Rattle.sql_grammar.specs.Proper.{terminal, reserved_mark, sign_mark};
-ghost use Rattle.sql_grammar.specs.Lang.{whole_at};
+ghost use Rattle.sql_grammar.specs.Proper.{terminal, reserved_symbol, sign_symbol};
+ghost use Rattle.sql_grammar.specs.Readers.{whole_at};
 ghost use Rattle.sql_grammar.specs.Meaning.{terminals};
 ghost use Rattle.sql_grammar.specs.Reading.{statement_at};
 ghost use Rattle.sql_syntax.specs.declared.parser.ParseFault.{ParseFault as Fault};
 ghost use Rattle.sql_syntax.specs.declared.parser.ParseFault.TheVariants as fault;
-ghost use Rattle.sql_syntax.specs.Parsing.{begins_of, or_end, Parses, Agrees, Shown};
-ghost use Rattle.sql_syntax.specs.Reserving.{mark_of_nine};
+ghost use Rattle.sql_syntax.specs.Parsing.{begins_of, or_end, Parses, Agrees, AnswersParsing};
+ghost use Rattle.sql_syntax.specs.Reserving.{symbol_of_nine};
 
 use crate::sentence::whole;
 use dl_base::{List, Memory, Stmt};
-use sql_grammar::{Mark, Terminal};
+use sql_grammar::{Symbol, Terminal};
 use sql_lex::{LexFault, LexKind, Lexeme, lex};
 use sql_precedence::{Refused, same_bytes};
 use std::alloc::Global;
@@ -40,153 +40,153 @@ impl From<Memory> for ParseFault {
     }
 }
 
-// The mark of one of the reserved words from and to datalink.
-#[tactic(auto, unfolding(crate::specs::Reserving::mark_of_nine))]
-fn and_to_datalink(word: &[u8]) -> Option<Mark>
-    ensures { result ≡ mark_of_nine 0 word.now }
+// The symbol of one of the reserved words from and to datalink.
+#[tactic(auto, unfolding(crate::specs::Reserving::symbol_of_nine))]
+fn and_to_datalink(word: &[u8]) -> Option<Symbol>
+    ensures { result ≡ symbol_of_nine 0 word.now }
 {
     if same_bytes(word, b"and") {
-        Some(Mark::And)
+        Some(Symbol::And)
     } else if same_bytes(word, b"as") {
-        Some(Mark::As)
+        Some(Symbol::As)
     } else if same_bytes(word, b"asc") {
-        Some(Mark::Asc)
+        Some(Symbol::Asc)
     } else if same_bytes(word, b"begin") {
-        Some(Mark::Begin)
+        Some(Symbol::Begin)
     } else if same_bytes(word, b"bigint") {
-        Some(Mark::Bigint)
+        Some(Symbol::Bigint)
     } else if same_bytes(word, b"by") {
-        Some(Mark::By)
+        Some(Symbol::By)
     } else if same_bytes(word, b"commit") {
-        Some(Mark::Commit)
+        Some(Symbol::Commit)
     } else if same_bytes(word, b"create") {
-        Some(Mark::Create)
+        Some(Symbol::Create)
     } else if same_bytes(word, b"datalink") {
-        Some(Mark::Datalink)
+        Some(Symbol::Datalink)
     } else {
         None
     }
 }
 
-// The mark of one of the reserved words from delete to into.
-#[tactic(auto, unfolding(crate::specs::Reserving::mark_of_nine))]
-fn delete_to_into(word: &[u8]) -> Option<Mark>
-    ensures { result ≡ mark_of_nine 9 word.now }
+// The symbol of one of the reserved words from delete to into.
+#[tactic(auto, unfolding(crate::specs::Reserving::symbol_of_nine))]
+fn delete_to_into(word: &[u8]) -> Option<Symbol>
+    ensures { result ≡ symbol_of_nine 9 word.now }
 {
     if same_bytes(word, b"delete") {
-        Some(Mark::Delete)
+        Some(Symbol::Delete)
     } else if same_bytes(word, b"desc") {
-        Some(Mark::Desc)
+        Some(Symbol::Desc)
     } else if same_bytes(word, b"drop") {
-        Some(Mark::Drop)
+        Some(Symbol::Drop)
     } else if same_bytes(word, b"from") {
-        Some(Mark::From)
+        Some(Symbol::From)
     } else if same_bytes(word, b"group") {
-        Some(Mark::Group)
+        Some(Symbol::Group)
     } else if same_bytes(word, b"inner") {
-        Some(Mark::Inner)
+        Some(Symbol::Inner)
     } else if same_bytes(word, b"insert") {
-        Some(Mark::Insert)
+        Some(Symbol::Insert)
     } else if same_bytes(word, b"integer") {
-        Some(Mark::Integer)
+        Some(Symbol::Integer)
     } else if same_bytes(word, b"into") {
-        Some(Mark::Into)
+        Some(Symbol::Into)
     } else {
         None
     }
 }
 
-// The mark of one of the reserved words from is to primary.
-#[tactic(auto, unfolding(crate::specs::Reserving::mark_of_nine))]
-fn is_to_primary(word: &[u8]) -> Option<Mark>
-    ensures { result ≡ mark_of_nine 18 word.now }
+// The symbol of one of the reserved words from is to primary.
+#[tactic(auto, unfolding(crate::specs::Reserving::symbol_of_nine))]
+fn is_to_primary(word: &[u8]) -> Option<Symbol>
+    ensures { result ≡ symbol_of_nine 18 word.now }
 {
     if same_bytes(word, b"is") {
-        Some(Mark::Is)
+        Some(Symbol::Is)
     } else if same_bytes(word, b"join") {
-        Some(Mark::Join)
+        Some(Symbol::Join)
     } else if same_bytes(word, b"key") {
-        Some(Mark::Key)
+        Some(Symbol::Key)
     } else if same_bytes(word, b"not") {
-        Some(Mark::Not)
+        Some(Symbol::Not)
     } else if same_bytes(word, b"null") {
-        Some(Mark::Null)
+        Some(Symbol::Null)
     } else if same_bytes(word, b"on") {
-        Some(Mark::On)
+        Some(Symbol::On)
     } else if same_bytes(word, b"or") {
-        Some(Mark::Or)
+        Some(Symbol::Or)
     } else if same_bytes(word, b"order") {
-        Some(Mark::Order)
+        Some(Symbol::Order)
     } else if same_bytes(word, b"primary") {
-        Some(Mark::Primary)
+        Some(Symbol::Primary)
     } else {
         None
     }
 }
 
-// The mark of one of the reserved words from rollback to where.
-#[tactic(auto, unfolding(crate::specs::Reserving::mark_of_nine))]
-fn rollback_to_where(word: &[u8]) -> Option<Mark>
-    ensures { result ≡ mark_of_nine 27 word.now }
+// The symbol of one of the reserved words from rollback to where.
+#[tactic(auto, unfolding(crate::specs::Reserving::symbol_of_nine))]
+fn rollback_to_where(word: &[u8]) -> Option<Symbol>
+    ensures { result ≡ symbol_of_nine 27 word.now }
 {
     if same_bytes(word, b"rollback") {
-        Some(Mark::Rollback)
+        Some(Symbol::Rollback)
     } else if same_bytes(word, b"select") {
-        Some(Mark::Select)
+        Some(Symbol::Select)
     } else if same_bytes(word, b"set") {
-        Some(Mark::Set)
+        Some(Symbol::Set)
     } else if same_bytes(word, b"table") {
-        Some(Mark::Table)
+        Some(Symbol::Table)
     } else if same_bytes(word, b"update") {
-        Some(Mark::Update)
+        Some(Symbol::Update)
     } else if same_bytes(word, b"values") {
-        Some(Mark::Values)
+        Some(Symbol::Values)
     } else if same_bytes(word, b"varchar") {
-        Some(Mark::Varchar)
+        Some(Symbol::Varchar)
     } else if same_bytes(word, b"where") {
-        Some(Mark::Where)
+        Some(Symbol::Where)
     } else {
         None
     }
 }
 
-// The mark of a reserved word.
+// The symbol of a reserved word.
 #[tactic(auto, using(crate::proofs::Reserving::by_nines))]
-fn reserved(word: &[u8]) -> Option<Mark>
-    ensures { result ≡ reserved_mark word.now }
+fn reserved(word: &[u8]) -> Option<Symbol>
+    ensures { result ≡ reserved_symbol word.now }
 {
     match and_to_datalink(word) {
-        Some(mark) => Some(mark),
+        Some(symbol) => Some(symbol),
         None => match delete_to_into(word) {
-            Some(mark) => Some(mark),
+            Some(symbol) => Some(symbol),
             None => match is_to_primary(word) {
-                Some(mark) => Some(mark),
+                Some(symbol) => Some(symbol),
                 None => rollback_to_where(word),
             },
         },
     }
 }
 
-// The mark of a sign, by its place in the lexer's list.
-fn sign(place: u8) -> Mark
-    ensures { result ≡ sign_mark place }
+// The symbol of a sign, by its place in the lexer's list.
+fn sign(place: u8) -> Symbol
+    ensures { result ≡ sign_symbol place }
 {
     match place {
-        0 => Mark::Open,
-        1 => Mark::Close,
-        2 => Mark::Comma,
-        3 => Mark::Dot,
-        4 => Mark::Semicolon,
-        5 => Mark::Star,
-        6 => Mark::Plus,
-        7 => Mark::Minus,
-        8 => Mark::Slash,
-        9 => Mark::Equal,
-        10 => Mark::Unequal,
-        11 => Mark::Less,
-        12 => Mark::LessEqual,
-        13 => Mark::Greater,
-        _ => Mark::GreaterEqual,
+        0 => Symbol::Open,
+        1 => Symbol::Close,
+        2 => Symbol::Comma,
+        3 => Symbol::Dot,
+        4 => Symbol::Semicolon,
+        5 => Symbol::Star,
+        6 => Symbol::Plus,
+        7 => Symbol::Minus,
+        8 => Symbol::Slash,
+        9 => Symbol::Equal,
+        10 => Symbol::Unequal,
+        11 => Symbol::Less,
+        12 => Symbol::LessEqual,
+        13 => Symbol::Greater,
+        _ => Symbol::GreaterEqual,
     }
 }
 
@@ -196,7 +196,7 @@ fn terminal(kind: LexKind) -> Terminal
 {
     match kind {
         LexKind::Word(word) => match reserved(word.bytes()) {
-            Some(mark) => Terminal::Fixed(mark),
+            Some(symbol) => Terminal::Fixed(symbol),
             None => Terminal::Word(word),
         },
         LexKind::Number(n) => Terminal::Number(n),
@@ -232,7 +232,7 @@ fn place(text: &[u8], begins: &[u64], number: usize) -> u64
 // The statement of the lexemes of a text.
 #[tactic(auto, using(crate::proofs::Places::place_of))]
 fn read(alloc: Global, text: &[u8], lexemes: List<Lexeme>) -> Result<Stmt, ParseFault>
-    ensures { Shown text.now lexemes result (whole_at statement_at (terminals lexemes)) }
+    ensures { AnswersParsing text.now lexemes result (whole_at statement_at (terminals lexemes)) }
 {
     let (terminals, begins) = terminals(alloc, lexemes)?;
     match whole(alloc, terminals.as_slice()) {

@@ -2,17 +2,17 @@
 ghost use Rattle.std.specs.Prelude.{◌≡◌, Bool, false, Option, None, slice_get};
 ghost use Rattle.std.proofs.Common.{refl};
 ghost use Rattle.sql_grammar.specs.declared.terminal.Terminal.{Terminal};
-ghost use Rattle.sql_grammar.specs.Lang.{Reader, Rises, Climbs, listed_at, many_at, expression_at};
+ghost use Rattle.sql_grammar.specs.Readers.{Reader, Rises, Climbs, listed_at, many_at, expression_at};
 ghost use Rattle.sql_grammar.specs.Reading.{name_at, rule_at, begins_rule, column_at, tuple_at, assigned_at, item_at, joined_at, begins_joined, ref_at, key_at};
 ghost use Rattle.sql_grammar.proofs.Columns.{name_rises, rule_climbs, column_rises};
 ghost use Rattle.sql_grammar.proofs.Statements.{expression_rises, tuple_rises, assigned_rises, item_rises, joined_climbs, ref_rises, key_rises};
-ghost use Rattle.sql_precedence.specs.Results.{Gives};
+ghost use Rattle.sql_precedence.specs.Results.{AnswersReading};
 
 use crate::changes::{assigned, tuple};
 use crate::columns::{column, rule};
 use crate::query::{item, joined, key, reference};
 use dl_base::{ColumnDef, ColumnRule, Expr, Item, Key, List, Name, Ref, TableRef};
-use sql_grammar::{Mark, Terminal};
+use sql_grammar::{Symbol, Terminal};
 use sql_precedence::{Refused, expression, name, stands};
 use std::alloc::Global;
 
@@ -22,7 +22,7 @@ pub trait Part: Drop {
 
     /// The part at the place, and the place behind it.
     fn read(alloc: Global, terminals: &[Terminal], at: usize) -> Result<(Self, usize), Refused>
-        ensures { Gives result (reader terminals.now at) };
+        ensures { AnswersReading result (reader terminals.now at) };
 
     ghost rises: { Rises reader };
 }
@@ -39,7 +39,7 @@ pub trait Repeated: Drop {
 
     /// The one at the place, and the place behind it.
     fn read(alloc: Global, terminals: &[Terminal], at: usize) -> Result<(Self, usize), Refused>
-        ensures { Gives result (reader terminals.now at) };
+        ensures { AnswersReading result (reader terminals.now at) };
 
     ghost climbs: { Climbs begins reader };
 
@@ -52,7 +52,7 @@ pub fn commas<T: Part>(
     terminals: &[Terminal],
     from: usize,
 ) -> Result<(List<T>, usize), Refused>
-    ensures { Gives result (listed_at T.reader terminals.now from) }
+    ensures { AnswersReading result (listed_at T.reader terminals.now from) }
 {
     let mut list = List::empty(alloc);
     let (first, next) = match T::read(alloc, terminals, from) {
@@ -61,7 +61,7 @@ pub fn commas<T: Part>(
     };
     list.push(first)?;
     let mut at = next;
-    'commas: while stands(terminals, at, Mark::Comma) {
+    'commas: while stands(terminals, at, Symbol::Comma) {
         let (part, next) = match T::read(alloc, terminals, at + 1) {
             Ok(read) => read,
             Err(refused) => return Err(refused),
@@ -78,7 +78,7 @@ pub fn many<T: Repeated>(
     terminals: &[Terminal],
     from: usize,
 ) -> Result<(List<T>, usize), Refused>
-    ensures { Gives result (many_at T.begins T.reader terminals.now from) }
+    ensures { AnswersReading result (many_at T.begins T.reader terminals.now from) }
 {
     let mut list = List::empty(alloc);
     let mut at = from;
@@ -191,7 +191,7 @@ impl Repeated for ColumnRule {
     ghost begins = { begins_rule };
 
     fn begins(terminals: &[Terminal], at: usize) -> bool {
-        stands(terminals, at, Mark::Not) || stands(terminals, at, Mark::Primary)
+        stands(terminals, at, Symbol::Not) || stands(terminals, at, Symbol::Primary)
     }
 
     fn read(
@@ -213,9 +213,9 @@ impl Repeated for (TableRef, Option<Expr>) {
     ghost begins = { begins_joined };
 
     fn begins(terminals: &[Terminal], at: usize) -> bool {
-        stands(terminals, at, Mark::Comma)
-            || stands(terminals, at, Mark::Join)
-            || stands(terminals, at, Mark::Inner)
+        stands(terminals, at, Symbol::Comma)
+            || stands(terminals, at, Symbol::Join)
+            || stands(terminals, at, Symbol::Inner)
     }
 
     fn read(

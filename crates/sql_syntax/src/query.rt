@@ -1,24 +1,24 @@
 // SELECT.
 ghost use Rattle.std.specs.Prelude.{◌≡◌, ◌++◌, ◌∷◌, IfOk, map};
-ghost use Rattle.sql_grammar.specs.declared.mark.Mark.TheVariants as mark;
+ghost use Rattle.sql_grammar.specs.declared.symbol.Symbol.TheVariants as symbol;
 ghost use Rattle.sql_grammar.specs.declared.token.Token.TheVariants as token;
-ghost use Rattle.sql_grammar.specs.Lang.{one_at, maybe_at};
+ghost use Rattle.sql_grammar.specs.Readers.{one_at, maybe_at};
 ghost use Rattle.sql_grammar.specs.Statements.{key_of, conditions_of, Following};
 ghost use Rattle.sql_grammar.specs.Reading.{name_at, item_at, items_at, alias_at, source_at, join_at, joined_at, sources_at, ref_at, group_at, direction_at, key_at, order_at, from_at, select_at};
-ghost use Rattle.sql_precedence.specs.Results.{Gives};
+ghost use Rattle.sql_precedence.specs.Results.{AnswersReading};
 
 use crate::changes::filter;
 use crate::part::{commas, many};
 use dl_base::{Expr, Item, Key, KeyBy, List, Memory, Name, Ref, Select, Stmt, TableRef};
-use sql_grammar::{Mark, Terminal};
+use sql_grammar::{Symbol, Terminal};
 use sql_precedence::{Refused, expect, expression, maybe_name, name, stands};
 use std::alloc::Global;
 
 // [AS name]
 fn item_alias(terminals: &[Terminal], at: usize) -> Result<(Option<Name>, usize), Refused>
-    ensures { Gives result (maybe_at (token.Mark mark.As) name_at terminals.now at) }
+    ensures { AnswersReading result (maybe_at (token.Symbol symbol.As) name_at terminals.now at) }
 {
-    if stands(terminals, at, Mark::As) {
+    if stands(terminals, at, Symbol::As) {
         let (alias, at) = name(terminals, at + 1)?;
         Ok((Some(alias), at))
     } else {
@@ -29,7 +29,7 @@ fn item_alias(terminals: &[Terminal], at: usize) -> Result<(Option<Name>, usize)
 /// expr [AS name]
 #[tactic(auto, unfolding(sql_grammar::specs::Reading::item_at))]
 pub fn item(alloc: Global, terminals: &[Terminal], at: usize) -> Result<(Item, usize), Refused>
-    ensures { Gives result (item_at terminals.now at) }
+    ensures { AnswersReading result (item_at terminals.now at) }
 {
     let (expr, at) = expression(alloc, terminals, at)?;
     let (alias, at) = item_alias(terminals, at)?;
@@ -43,9 +43,9 @@ fn items(
     terminals: &[Terminal],
     at: usize,
 ) -> Result<(Option<List<Item>>, usize), Refused>
-    ensures { Gives result (items_at terminals.now at) }
+    ensures { AnswersReading result (items_at terminals.now at) }
 {
-    if stands(terminals, at, Mark::Star) {
+    if stands(terminals, at, Symbol::Star) {
         return Ok((None, at + 1));
     }
     let (items, at) = commas::<Item>(alloc, terminals, at)?;
@@ -55,9 +55,9 @@ fn items(
 // [[AS] name]
 #[tactic(auto, unfolding(sql_grammar::specs::Reading::alias_at))]
 fn alias(terminals: &[Terminal], at: usize) -> Result<(Option<Name>, usize), Refused>
-    ensures { Gives result (alias_at terminals.now at) }
+    ensures { AnswersReading result (alias_at terminals.now at) }
 {
-    if stands(terminals, at, Mark::As) {
+    if stands(terminals, at, Symbol::As) {
         let (alias, at) = name(terminals, at + 1)?;
         Ok((Some(alias), at))
     } else {
@@ -68,7 +68,7 @@ fn alias(terminals: &[Terminal], at: usize) -> Result<(Option<Name>, usize), Ref
 // name [[AS] name]
 #[tactic(auto, unfolding(sql_grammar::specs::Reading::source_at))]
 fn source(terminals: &[Terminal], at: usize) -> Result<(TableRef, usize), Refused>
-    ensures { Gives result (source_at terminals.now at) }
+    ensures { AnswersReading result (source_at terminals.now at) }
 {
     let (table, at) = name(terminals, at)?;
     let (alias, at) = alias(terminals, at)?;
@@ -82,10 +82,10 @@ fn join(
     terminals: &[Terminal],
     at: usize,
 ) -> Result<((TableRef, Option<Expr>), usize), Refused>
-    ensures { Gives result (join_at terminals.now at) }
+    ensures { AnswersReading result (join_at terminals.now at) }
 {
     let (source, at) = source(terminals, at)?;
-    let at = expect(terminals, at, Mark::On)?;
+    let at = expect(terminals, at, Symbol::On)?;
     let (condition, at) = expression(alloc, terminals, at)?;
     Ok(((source, Some(condition)), at))
 }
@@ -97,16 +97,16 @@ pub fn joined(
     terminals: &[Terminal],
     at: usize,
 ) -> Result<((TableRef, Option<Expr>), usize), Refused>
-    ensures { Gives result (joined_at terminals.now at) }
+    ensures { AnswersReading result (joined_at terminals.now at) }
 {
-    if stands(terminals, at, Mark::Comma) {
+    if stands(terminals, at, Symbol::Comma) {
         let (source, at) = source(terminals, at + 1)?;
         Ok(((source, None), at))
-    } else if stands(terminals, at, Mark::Join) {
+    } else if stands(terminals, at, Symbol::Join) {
         join(alloc, terminals, at + 1)
     } else {
-        let at = expect(terminals, at, Mark::Inner)?;
-        let at = expect(terminals, at, Mark::Join)?;
+        let at = expect(terminals, at, Symbol::Inner)?;
+        let at = expect(terminals, at, Symbol::Join)?;
         join(alloc, terminals, at)
     }
 }
@@ -118,7 +118,7 @@ fn sources(
     terminals: &[Terminal],
     at: usize,
 ) -> Result<((TableRef, List<(TableRef, Option<Expr>)>), usize), Refused>
-    ensures { Gives result (sources_at terminals.now at) }
+    ensures { AnswersReading result (sources_at terminals.now at) }
 {
     let (first, at) = source(terminals, at)?;
     let (more, at) = many::<(TableRef, Option<Expr>)>(alloc, terminals, at)?;
@@ -128,10 +128,10 @@ fn sources(
 /// name [. name]
 #[tactic(auto, unfolding(sql_grammar::specs::Reading::ref_at))]
 pub fn reference(terminals: &[Terminal], at: usize) -> Result<(Ref, usize), Refused>
-    ensures { Gives result (ref_at terminals.now at) }
+    ensures { AnswersReading result (ref_at terminals.now at) }
 {
     let (first, at) = name(terminals, at)?;
-    if stands(terminals, at, Mark::Dot) {
+    if stands(terminals, at, Symbol::Dot) {
         let (column, at) = name(terminals, at + 1)?;
         Ok((
             Ref {
@@ -154,18 +154,18 @@ pub fn reference(terminals: &[Terminal], at: usize) -> Result<(Ref, usize), Refu
 // [GROUP BY ref {, ref}]
 #[tactic(auto, unfolding(sql_grammar::specs::Reading::group_at))]
 fn group(alloc: Global, terminals: &[Terminal], at: usize) -> Result<(List<Ref>, usize), Refused>
-    ensures { Gives result (group_at terminals.now at) }
+    ensures { AnswersReading result (group_at terminals.now at) }
 {
-    if !stands(terminals, at, Mark::Group) {
+    if !stands(terminals, at, Symbol::Group) {
         return Ok((List::empty(alloc), at));
     }
-    let at = expect(terminals, at + 1, Mark::By)?;
+    let at = expect(terminals, at + 1, Symbol::By)?;
     commas::<Ref>(alloc, terminals, at)
 }
 
 // name | number
 fn key_by(terminals: &[Terminal], at: usize) -> Result<(KeyBy, usize), Refused>
-    ensures { Gives result (one_at key_of terminals.now at) }
+    ensures { AnswersReading result (one_at key_of terminals.now at) }
 {
     match terminals.get(at) {
         Some(Terminal::Word(name)) => Ok((KeyBy::Name(name.copy()?), at + 1)),
@@ -177,11 +177,11 @@ fn key_by(terminals: &[Terminal], at: usize) -> Result<(KeyBy, usize), Refused>
 // [ASC | DESC]
 #[tactic(auto, unfolding(sql_grammar::specs::Reading::direction_at))]
 fn direction(terminals: &[Terminal], at: usize) -> Result<(bool, usize), Refused>
-    ensures { Gives result (direction_at terminals.now at) }
+    ensures { AnswersReading result (direction_at terminals.now at) }
 {
-    if stands(terminals, at, Mark::Asc) {
+    if stands(terminals, at, Symbol::Asc) {
         Ok((false, at + 1))
-    } else if stands(terminals, at, Mark::Desc) {
+    } else if stands(terminals, at, Symbol::Desc) {
         Ok((true, at + 1))
     } else {
         Ok((false, at))
@@ -191,7 +191,7 @@ fn direction(terminals: &[Terminal], at: usize) -> Result<(bool, usize), Refused
 /// (name | number) [ASC | DESC]
 #[tactic(auto, unfolding(sql_grammar::specs::Reading::key_at))]
 pub fn key(terminals: &[Terminal], at: usize) -> Result<(Key, usize), Refused>
-    ensures { Gives result (key_at terminals.now at) }
+    ensures { AnswersReading result (key_at terminals.now at) }
 {
     let (by, at) = key_by(terminals, at)?;
     let (descending, at) = direction(terminals, at)?;
@@ -201,12 +201,12 @@ pub fn key(terminals: &[Terminal], at: usize) -> Result<(Key, usize), Refused>
 // [ORDER BY key {, key}]
 #[tactic(auto, unfolding(sql_grammar::specs::Reading::order_at))]
 fn order(alloc: Global, terminals: &[Terminal], at: usize) -> Result<(List<Key>, usize), Refused>
-    ensures { Gives result (order_at terminals.now at) }
+    ensures { AnswersReading result (order_at terminals.now at) }
 {
-    if !stands(terminals, at, Mark::Order) {
+    if !stands(terminals, at, Symbol::Order) {
         return Ok((List::empty(alloc), at));
     }
-    let at = expect(terminals, at + 1, Mark::By)?;
+    let at = expect(terminals, at + 1, Symbol::By)?;
     commas::<Key>(alloc, terminals, at)
 }
 
@@ -235,10 +235,10 @@ fn parted(
 /// (* | item {, item}) FROM sources [WHERE expr] [GROUP BY ..] [ORDER BY ..]
 #[tactic(auto, unfolding(sql_grammar::specs::Reading::select_at, sql_grammar::specs::Reading::from_at))]
 pub fn select(alloc: Global, terminals: &[Terminal], at: usize) -> Result<(Stmt, usize), Refused>
-    ensures { Gives result (select_at terminals.now at) }
+    ensures { AnswersReading result (select_at terminals.now at) }
 {
     let (items, at) = items(alloc, terminals, at)?;
-    let at = expect(terminals, at, Mark::From)?;
+    let at = expect(terminals, at, Symbol::From)?;
     let ((first, more), at) = sources(alloc, terminals, at)?;
     let (filter, at) = filter(alloc, terminals, at)?;
     let (group, at) = group(alloc, terminals, at)?;

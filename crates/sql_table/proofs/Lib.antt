@@ -1,3 +1,10 @@
+pub mod Asking
+pub mod Differing
+pub mod First
+pub mod Kept
 pub mod Left
+pub mod Marking
 pub mod Names
 pub mod Numbers
+pub mod Rising
+pub mod RowLinks

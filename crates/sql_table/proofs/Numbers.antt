@@ -1,15 +1,12 @@
 -- Rows whose numbers rise.
-use Rattle.std.proofs.Common.{◌≡◌, ℕ, zero, suc, ◌+◌, ◌<◌, ◌≤◌, ◌==◌, Bool, true, false, cond, Option, Some, None, List, [], ◌∷◌, ◌++◌, length, get_or, set, refl, sym, ap, arith, inl, inr}
-use Rattle.std.specs.List.{remove, slice_get, HoldsAt}
-use Rattle.std.specs.List.Sorted.{IsPartitionPoint, IsNonDecreasingBy}
+use Rattle.std.proofs.Common.{◌≡◌, ℕ, zero, suc, ◌+◌, ◌<◌, ◌≤◌, ◌==◌, ◌&&◌, ◌||◌, Bool, true, false, cond, Option, Some, None, List, [], ◌∷◌, ◌++◌, length, take, get_or, set, refl, sym, ap, ◌∙◌, arith, inl, inr, nat_lt, is_some}
+use Rattle.std.specs.List.{remove, slice_get, list_all, list_any}
 use Rattle.std.specs.Option.{option_map}
-use Rattle.std.specs.Ordering.{nat_cmp, ordering_index, is_lt}
-use Rattle.std.specs.declared.cmp.Ordering.TheVariants.{Less, Equal, Greater}
-use Rattle.std.proofs.lemmas.Bool.{eq-eqb, ne_eqb, le-ltb, cases_lt}
-use Rattle.std.proofs.lemmas.Cmp.{nat_cmp_total, ranked}
-use Rattle.std.proofs.lemmas.List.Sorted.{searchable_from_sorted}
-use Rattle.std.proofs.lemmas.Option.{slice_get_read}
+use Rattle.std.proofs.lemmas.Bool.{eq-eqb, ne_eqb, le-ltb}
+use Rattle.std.proofs.lemmas.Bool.Decides.{nat_tests}
+use Rattle.std.proofs.lemmas.Option.{slice_get_read, slice_get_within, get_or_from_slice_get}
 use Rattle.dl_base.specs.declared.value.Row.{Row}
+use Rattle.dl_pages.specs.Points.{IsPartitioned, IsPartitionPoint}
 use Rattle.meaning_tables.specs.Tables.{Rise, row_of, with_row, without_row}
 use Rattle.sql_table.specs.Places.{IsPlace}
 
@@ -18,13 +15,6 @@ number-from : (first below : ℕ) (rows : List (ℕ × Row)) (i : ℕ) (d : ℕ 
 number-from first below [] i d rise within = absurd (omega arith)
 number-from first below (r ∷ rs) zero d rise within = rise.0
 number-from first below (r ∷ rs) (suc i) d rise within = omega (arith, rise.0, number-from (r.0 + 1) below rs i d rise.2 (omega arith))
-
--- a number is below each later one
-number-rises : (first below : ℕ) (rows : List (ℕ × Row)) (i j : ℕ) (d : ℕ × Row) → Rise first below rows → i < j → j < length rows → (get_or rows i d).0 < (get_or rows j d).0
-number-rises first below [] i j d rise less within = absurd (omega arith)
-number-rises first below (r ∷ rs) i zero d rise less within = absurd (omega arith)
-number-rises first below (r ∷ rs) zero (suc j) d rise less within = omega (arith, number-from (r.0 + 1) below rs j d rise.2 (omega arith))
-number-rises first below (r ∷ rs) (suc i) (suc j) d rise less within = number-rises (r.0 + 1) below rs i j d rise.2 (omega arith) (omega arith)
 
 -- what the place of a number says, one part after the other
 found : (first below number : ℕ) (rows : List (ℕ × Row)) (i : ℕ) (d : ℕ × Row) → Rise first below rows → i < length rows → (get_or rows i d).0 ≡ number → row_of rows number ≡ option_map (λ r. r.1) (slice_get rows i)
@@ -54,35 +44,54 @@ place-of_number below number rows i d rise within here = record {
   removed = removed 0 below number rows i d rise within here;
 }
 
--- no row has a number from which all differ
-absent : (number : ℕ) (rows : List (ℕ × Row)) → ((k : ℕ) (d : ℕ × Row) → k < length rows → (get_or rows k d).0 ≡ number → ⊥) → row_of rows number ≡ None
-absent number [] others = refl
-absent number (r ∷ rs) others =
-    rw (ne_eqb number r.0 (λ e. others 0 r (omega arith) (sym e))) (absent number rs (λ k d within. others (suc k) d (omega arith)))
+-- what the point of a number asks
+none-below : (first below number : ℕ) (rows : List (ℕ × Row)) → number ≤ first → Rise first below rows → list_any (λ r. nat_lt r.0 number) rows ≡ false
+none-below first below number [] le rise = refl
+none-below first below number (r ∷ rs) le rise = rw (le-ltb r.0 number (omega (arith, rise.0))) (none-below (r.0 + 1) below number rs (omega (arith, rise.0)) rise.2)
 
-not_less : (x y : ℕ) → y < x → is_lt (nat_cmp x y) ≡ false
-not_less x y above = rw (le-ltb x y (omega arith), ne_eqb x y (omega arith)) refl
-
--- what a search by halves asks
-pub searchable : (below number : ℕ) (rows : List (ℕ × Row)) → Rise 0 below rows → IsNonDecreasingBy (λ r. ordering_index (nat_cmp r.0 number)) rows
-searchable below number rows rise =
-    searchable_from_sorted nat_cmp_total (λ r. r.0) rows number (λ k d low high. not_less (get_or rows (k + 1) d).0 (get_or rows k d).0 (number-rises 0 below rows k (k + 1) d rise (omega arith) high))
-
--- what a search by halves has found
-pub hit : (below number : ℕ) (rows : List (ℕ × Row)) (i : ℕ) → Rise 0 below rows → i < length rows → HoldsAt (λ r. nat_cmp r.0 number ≡ Equal) rows i → IsPlace rows number i
-hit below number [] i rise within at = absurd (omega arith)
-hit below number (r ∷ rs) i rise within at = place-of_number below number (r ∷ rs) i r rise within (equal (get_or (r ∷ rs) i r).0 number (sym (at r)))
+pub falls : (first below number : ℕ) (rows : List (ℕ × Row)) → Rise first below rows → IsPartitioned (λ r. nat_lt r.0 number) rows
+falls first below number [] rise = tt
+falls first below number (r ∷ rs) rise = ((λ e. none-below (r.0 + 1) below number rs (omega (arith, not-less r.0 e)) rise.2), falls (r.0 + 1) below number rs rise.2)
   where
-    equal : (x y : ℕ) → Equal ≡ nat_cmp x y → x ≡ y
-    equal x y e = ranked x y Equal e
+    not-less : (n : ℕ) → nat_lt n number ≡ false → number ≤ n
+    not-less n e = grind (arith, nat_tests)
 
--- what a search by halves has missed
-pub miss : (number : ℕ) (rows : List (ℕ × Row)) (i : ℕ) → IsPartitionPoint (λ r. nat_cmp r.0 number ≡ Less) (λ r. nat_cmp r.0 number ≡ Greater) rows i → row_of rows number ≡ None
-miss number rows i parts = absent number rows (λ k d within here.
-    elim (cases_lt k i) [
-      | inl less ↦ let below : (get_or rows k d).0 < number = ranked (get_or rows k d).0 number Less (sym (parts.0 k d (omega arith) less)) in omega arith
-      | inr not ↦ let above : number < (get_or rows k d).0 = ranked (get_or rows k d).0 number Greater (sym (parts.1 k d not within)) in omega arith
-    ])
+-- what has been found at a point
+pub hit : (below number place : ℕ) (rows : List (ℕ × Row)) (item : ℕ × Row) → Rise 0 below rows → slice_get rows place ≡ Some item → item.0 ≡ number → IsPlace rows number place
+hit below number place rows item rise is same =
+    place-of_number below number rows place item rise (slice_get_within rows place item is) (ap (λ r. r.0) (get_or_from_slice_get rows place item item is) ∙ same)
+
+none-of : (first below number : ℕ) (rows : List (ℕ × Row)) → Rise first below rows → number < first → row_of rows number ≡ None
+none-of first below number [] rise less = refl
+none-of first below number (r ∷ rs) rise less = rw (ne_eqb number r.0 (λ e. omega (arith, rise.0))) (none-of (r.0 + 1) below number rs rise.2 (omega (arith, rise.0)))
+
+-- what has been missed at a point
+pub miss : (first below number place : ℕ) (rows : List (ℕ × Row)) → Rise first below rows → IsPartitionPoint (λ r. nat_lt r.0 number) rows place → ((item : ℕ × Row) → slice_get rows place ≡ Some item → item.0 ≡ number → ⊥) → row_of rows number ≡ None
+miss first below number place [] rise point other = refl
+miss first below number zero (r ∷ rs) rise point other =
+    let above : number < r.0 = above-by r.0 (first-fails (nat_lt r.0 number) (list_any (λ r. nat_lt r.0 number) rs) point.rest) (other r refl) in
+    rw (ne_eqb number r.0 (λ e. omega arith)) (none-of (r.0 + 1) below number rs rise.2 (omega arith))
+  where
+    first-fails : (a b : Bool) → (a || b) ≡ false → a ≡ false
+    first-fails true b e = cc e
+    first-fails false b e = refl
+
+    above-by : (n : ℕ) → nat_lt n number ≡ false → (n ≡ number → ⊥) → number < n
+    above-by n e ne = grind (arith, nat_tests)
+miss first below number (suc place) (r ∷ rs) rise point other =
+    let under : r.0 < number = under-by r.0 (first-passes (nat_lt r.0 number) (list_all (λ r. nat_lt r.0 number) (take place rs)) point.front) in
+    rw (ne_eqb number r.0 (λ e. omega arith)) (miss (r.0 + 1) below number place rs rise.2 (record { within = omega (arith, point.within); front = rest-pass (nat_lt r.0 number) (list_all (λ r. nat_lt r.0 number) (take place rs)) point.front; rest = point.rest }) (λ item is same. other item is same))
+  where
+    first-passes : (a b : Bool) → (a && b) ≡ true → a ≡ true
+    first-passes true b e = refl
+    first-passes false b e = cc e
+
+    rest-pass : (a b : Bool) → (a && b) ≡ true → b ≡ true
+    rest-pass true b e = e
+    rest-pass false b e = cc e
+
+    under-by : (n : ℕ) → nat_lt n number ≡ true → n < number
+    under-by n e = grind (arith, nat_tests)
 
 -- numbers that rise from one number on rise from a smaller one on
 rise-from : (first least below : ℕ) (rows : List (ℕ × Row)) → least ≤ first → Rise first below rows → Rise least below rows
@@ -124,6 +133,20 @@ pub none-removed : (number : ℕ) (rows : List (ℕ × Row)) → row_of rows num
 none-removed number [] none = refl
 none-removed number (r ∷ rs) none = none-removed-by (number == r.0) r rs (without_row rs number) (row_of rs number) (none-removed number rs) none
 
--- the row at a place
-pub row-at : (rows : List (ℕ × Row)) (place : ℕ) (item : ℕ × Row) → place < length rows → item ≡ get_or rows place item → option_map (λ r. r.1) (slice_get rows place) ≡ Some item.1
-row-at rows place item within is = ap (λ r. option_map (λ r. r.1) r) (slice_get_read rows (length rows) place item refl within is)
+-- a place has a row
+pub some-at : (rows : List (ℕ × Row)) (place : ℕ) → place < length rows → option_map (λ r. r.1) (slice_get rows place) ≡ None → ⊥
+some-at [] place within none = omega arith
+some-at (r ∷ rs) zero within none = cc none
+some-at (r ∷ rs) (suc place) within none = some-at rs place (omega arith) none
+
+pub present : (rows : List (ℕ × Row)) (number place : ℕ) → IsPlace rows number place → row_of rows number ≡ None → ⊥
+present rows number place at none = some-at rows place at.within (sym at.found ∙ none)
+
+some-is : (rows : List (ℕ × Row)) (place : ℕ) → place < length rows → is_some (option_map (λ r. r.1) (slice_get rows place)) ≡ true
+some-is [] place within = absurd (omega arith)
+some-is (r ∷ rs) zero within = refl
+some-is (r ∷ rs) (suc place) within = some-is rs place (omega arith)
+
+-- a number that stands at a place is there
+pub is_there : (rows : List (ℕ × Row)) (number place : ℕ) → IsPlace rows number place → true ≡ is_some (row_of rows number)
+is_there rows number place at = sym (ap is_some at.found ∙ some-is rows place at.within)

@@ -1,2 +1,6 @@
+pub mod Columns
+pub mod Keys
+pub mod Lacking
 pub mod Lending
+pub mod Marks
 pub mod Places

@@ -1,10 +1,13 @@
-//! Tables by name, and their rows in order of row number.
+//! Tables by name, their rows in order of row number, their links, and what a copy of tables gives and takes.
 #![tactic(auto)]
 
+mod columns;
+mod index;
+mod key;
+mod link_rows;
 mod table;
 mod tables;
-#[cfg(test)]
-mod tests;
 
+pub use link_rows::{gives_takes, links};
 pub use table::{RowFault, Table};
 pub use tables::Tables;

@@ -1,12 +1,21 @@
 // One table.
-ghost use Rattle.std.specs.Prelude.{◌≡◌, ◌↔◌, ◌<◌, ◌^◌, Some, None, IfOk, IfErr, OnOk, OnErr, length, remove, slice_get, slice_index_or, slice_set, MatchOption, ◌+◌, ◌∷◌, [], drop};
+ghost use Rattle.std.specs.Prelude.{◌≡◌, ◌↔◌, ◌<◌, Some, None, IfOk, IfErr, OnOk, OnErr, length, slice_get, MatchOption, is_some, ◌+◌, ◌++◌, ◌∷◌, [], drop};
 ghost use Rattle.std.specs.Option.{option_copied, option_map};
+ghost use Rattle.dl_base.specs.Limits.{most_rows, row_numbers};
+ghost use Rattle.dl_pages.specs.Orders.{link_order};
+ghost use Rattle.meaning_tables.specs.First.{first_number, has_key, has_link};
 ghost use Rattle.meaning_tables.specs.Tables.{Rise, row_of, with_row, without_row, new_table, with_inserted};
+ghost use Rattle.sql_table.specs.Marks.{IsIndex, IsKept, link_marks};
 ghost use Rattle.sql_table.specs.Places.{IsPlace};
 
-use dl_base::{Column, Copied, List, Memory, Row, Same};
+use crate::columns::Columns;
+use crate::index::{key_index, link_index, row_marks, with_marks, without_marks};
+use crate::key::{Key, KeyProbe, number_probe, row_keys};
+use dl_base::{Column, Copied, LinkNo, List, Memory, Row, Same, Value};
+use dl_pages::{Pages, Predicate, least};
+use std::alloc::Global;
 use std::marker::Model;
-use std::mem;
+use std::sync::Arc;
 
 /// Why a row was not replaced.
 #[derive(Clone, Copy, Debug, PartialEq, Eq)]
@@ -17,23 +26,33 @@ pub enum RowFault {
     Memory,
 }
 
+/// Rows by number, and beside them the numbers of rows by link and by key.
+type Parts = (Pages<(u64, Row)>, Pages<(LinkNo, u64)>, Pages<(Key, u64)>);
+
 /// A table. Contracts see its version, its columns, the next row number, and its rows in order of their numbers.
+///
+/// A copy shares rows and columns with its table, so it costs the same for each table; a change then copies the few pages that it
+/// changes, and no other copy sees it.
 #[derive(Drop)]
 pub struct Table {
     version: u64,
-    columns: List<Column>,
+    columns: Columns,
     next: u64,
-    rows: List<(u64, Row)>,
+    rows: Pages<(u64, Row)>,
+    links: Pages<(LinkNo, u64)>,
+    keys: Pages<(Key, u64)>,
 }
 
 impl Model for Table {
-    ghost use Rattle.meaning_tables.specs.Tables.{Rows, Rise};
+    ghost use Rattle.meaning_tables.specs.Tables.{Rows};
 
     ghost Value = { Rows };
 
     ghost view = { λ t. record { version = t.version; columns = t.columns; next = t.next; rows = t.rows } };
 
-    ghost invariant = { λ t. Rise 0 t.next t.rows };
+    ghost use Rattle.sql_table.specs.Marks.{IsKept};
+
+    ghost invariant = { λ t. IsKept t.columns t.next t.rows t.links t.keys };
 }
 
 impl Table {
@@ -41,16 +60,31 @@ impl Table {
     pub fn new(columns: List<Column>) -> Table
         ensures { result ≡ new_table columns }
     {
-        let rows = List::empty(columns.allocator());
+        Table::of(Columns::own(columns))
+    }
+
+    /// A table just made, whose copies share its columns from the start.
+    pub(crate) fn made(alloc: Global, columns: List<Column>) -> Result<Table, Memory>
+        ensures { IfOk result (λ made. made ≡ new_table columns) }
+    {
+        Ok(Table::of(Columns::shared(alloc, columns)?))
+    }
+
+    fn of(columns: Columns) -> Table
+        ensures { result ≡ new_table columns }
+    {
         Table {
             version: 0,
             columns,
             next: 1,
-            rows,
+            rows: Pages::empty(),
+            links: Pages::empty(),
+            keys: Pages::empty(),
         }
     }
 
-    /// A table of these rows, whose numbers rise and are below the next one.
+    /// A table of these rows, whose numbers rise and are below the next one. The cost grows with their number, times its logarithm
+    /// where they have keys or links.
     pub fn with_rows(
         version: u64,
         columns: List<Column>,
@@ -60,11 +94,18 @@ impl Table {
         requires { Rise 0 next rows }
         ensures { IfOk result (λ made. made ≡ record { version = version; columns = columns; next = next; rows = rows }) }
     {
+        let alloc = columns.allocator();
+        let rows = Pages::of(alloc, rows)?;
+        let links = link_index(alloc, &columns, next, &rows)?;
+        let keys = key_index(alloc, &columns, next, &rows)?;
+        let columns = Columns::shared(alloc, columns)?;
         Ok(Table {
             version,
             columns,
             next,
             rows,
+            links,
+            keys,
         })
     }
 
@@ -72,7 +113,7 @@ impl Table {
     pub fn columns(&self) -> &List<Column>
         ensures { result.now ≡ self.now.columns }
     {
-        &self.columns
+        self.columns.list()
     }
 
     /// The number of the commit that last changed the table; 0 before the first.
@@ -105,7 +146,8 @@ impl Table {
         self.rows.len()
     }
 
-    /// The row at a place from 0, with its number; None past the last. The cost does not grow with the table.
+    /// The row at a place from 0, with its number; None past the last. It takes no memory. The cost grows with the logarithm of
+    /// the number of rows.
     pub fn at(&self, index: usize) -> Option<(u64, &Row)>
         ensures value { option_map (λ r. (r.0, r.1.now)) result ≡ slice_get self.now.rows index }
         ensures left { MatchOption result (drop index self.now.rows ≡ []) (λ r. drop index self.now.rows ≡ (r.0, r.1.now) ∷ drop (index + 1) self.now.rows) }
@@ -120,17 +162,14 @@ impl Table {
     fn place(&self, number: u64) -> Option<usize>
         ensures { MatchOption result (row_of self.now.rows number ≡ None) (λ place. IsPlace self.now.rows number place) }
     {
-        match self
-            .rows
-            .as_slice()
-            .binary_search_by_key(&number, |row| row.0)
-        {
-            Ok(place) => Some(place),
-            Err(_) => None,
+        let place = self.rows.partition_point(&Below { number });
+        match self.rows.at(place) {
+            Some(row) => { if row.0 == number { Some(place) } else { None } }
+            None => None,
         }
     }
 
-    /// The row of a number; None where no row has it. The cost grows with the logarithm of the number of rows.
+    /// The row of a number; None where no row has it. It takes no memory. The cost grows with the logarithm of the number of rows.
     pub fn row(&self, number: u64) -> Option<&Row>
         ensures { option_copied result ≡ row_of self.now.rows number }
     {
@@ -143,85 +182,359 @@ impl Table {
         }
     }
 
-    /// Puts a row at the end and gives its number, which no row had before: the table has fewer than 1,000,000 rows, and its next
-    /// row number is below 2 to the 63rd. An `Err` gives the row back. The cost does not grow with the table, taken over many
-    /// calls.
-    pub fn insert(&mut self, row: Row) -> Result<u64, (Row, Memory)>
-        requires few { length self.old.rows < 1000000 }
-        requires small { self.old.next < 2 ^ 63 }
-        ensures ok { IfOk result (λ number. (number ≡ self.old.next) × (self.new ≡ with_inserted self.old row)) }
-        ensures err { IfErr result (λ e. (e.0 ≡ row) × (self.new ≡ self.old)) }
+    /// The number of the first row with a cell of a link number; None where no row has one. It takes no memory. The cost grows
+    /// with the logarithm of the number of links.
+    pub fn first_link(&self, link: LinkNo) -> Option<u64>
+        ensures { result ≡ first_number (has_link self.now.columns link) self.now.rows }
     {
-        let number = self.next;
-        match self.rows.push((number, row)) {
-            Ok(()) => {
-                self.next = number + 1;
-                Ok(number)
-            }
-            Err((item, memory)) => Err((item.1, memory)),
+        least(&self.links, &link)
+    }
+
+    // The link numbers of rows, each with the number of its row, in order of link numbers.
+    pub(crate) fn link_entries(&self) -> &Pages<(LinkNo, u64)>
+        ensures numbered { Rise 0 self.now.next self.now.rows }
+        ensures value { IsIndex link_order (link_marks self.now.columns) self.now.rows result.now }
+    {
+        &self.links
+    }
+
+    /// The least number of a row that has a value in a key column; None where no row has it there, as with NULL and a datalink,
+    /// which no key is equal to. Where the table has exactly one key column, it is the row of that key. It takes no memory. The
+    /// cost grows with the logarithm of the number of rows.
+    pub fn by_key(&self, key: &Value) -> Option<u64>
+        ensures { result ≡ first_number (has_key self.now.columns key.now) self.now.rows }
+    {
+        match key {
+            Value::Int(z) => least(&self.keys, &number_probe(z)),
+            Value::Text(text) => least(
+                &self.keys,
+                &KeyProbe {
+                    kind: 1,
+                    number: 0,
+                    text: text.bytes(),
+                },
+            ),
+            Value::Null => None,
+            Value::Link(_) => None,
         }
     }
 
-    /// Puts a row in the place of that of a number, and gives that one back. An `Err` gives the row back. The cost grows with the
-    /// logarithm of the number of rows.
+    /// Puts a row at the end and gives its number, which no row had before: the table has fewer than 1,000,000 rows, and its next
+    /// row number is below 2 to the 63rd. An `Err` gives the row back, so the table gets a copy of it: `put_next` spares that. The
+    /// cost grows with the logarithm of the number of rows.
+    pub fn insert(&mut self, row: Row) -> Result<u64, (Row, Memory)>
+        requires few { length self.old.rows < most_rows }
+        requires small { self.old.next < row_numbers }
+        ensures ok { IfOk result (λ number. (number ≡ self.old.next) × (self.new ≡ with_inserted self.old row)) }
+        ensures err { IfErr result (λ e. (e.0 ≡ row) × (self.new ≡ self.old)) }
+    {
+        match row.copy() {
+            Ok(copy) => match self.put_next(copy) {
+                Ok(number) => {
+                    drop(row);
+                    Ok(number)
+                }
+                Err(memory) => Err((row, memory)),
+            },
+            Err(memory) => Err((row, memory)),
+        }
+    }
+
+    /// Puts a row at the end and gives its number, which no row had before: the table has fewer than 1,000,000 rows, and its next
+    /// row number is below 2 to the 63rd. After an `Err` the table is as it was. The cost grows with the logarithm of the number
+    /// of rows.
+    pub fn put_next(&mut self, row: Row) -> Result<u64, Memory>
+        requires few { length self.old.rows < most_rows }
+        requires small { self.old.next < row_numbers }
+        ensures ok { IfOk result (λ number. (number ≡ self.old.next) × (self.new ≡ with_inserted self.old row)) }
+        ensures err { OnErr result (self.new ≡ self.old) }
+    {
+        let number = self.next;
+        let (rows, links, keys) = pushed(
+            self.columns.list(),
+            number,
+            &self.rows,
+            &self.links,
+            &self.keys,
+            row,
+        )?;
+        self.rows = rows;
+        self.links = links;
+        self.keys = keys;
+        self.next = number + 1;
+        Ok(number)
+    }
+
+    /// Puts a row in the place of that of a number, and gives a copy of that one. An `Err` gives the row back, so the table gets a
+    /// copy of it: `set` spares both. The cost grows with the logarithm of the number of rows.
     pub fn replace(&mut self, number: u64, row: Row) -> Result<Row, (Row, RowFault)>
         ensures ok { IfOk result (λ before. (row_of self.old.rows number ≡ Some before) × (self.new ≡ record self.old { rows = with_row self.old.rows number row })) }
         ensures err { IfErr result (λ e. (e.0 ≡ row) × (self.new ≡ self.old)) }
         ensures absent { IfErr result (λ e. (e.1 ≡ RowFault.Absent) ↔ (row_of self.old.rows number ≡ None)) }
     {
         match self.place(number) {
-            Some(place) => Ok(exchange(&mut self.rows, place, (number, row)).1),
+            Some(place) => match copies(&self.rows, place, &row) {
+                Ok((before, copy)) => match self.exchange(place, number, copy) {
+                    Ok(()) => {
+                        drop(row);
+                        Ok(before)
+                    }
+                    Err(_) => {
+                        drop(before);
+                        Err((row, RowFault::Memory))
+                    }
+                },
+                Err(_) => Err((row, RowFault::Memory)),
+            },
             None => Err((row, RowFault::Absent)),
         }
     }
 
-    /// Takes the row of a number out; None where no row has the number. The rows behind it are moved, so the cost grows with
-    /// their number.
+    /// Puts a row in the place of that of a number; false where no row has the number, and then nothing has changed. After an
+    /// `Err` the table is as it was. The cost grows with the logarithm of the number of rows.
+    #[tactic(auto, using(crate::proofs::Numbers::is_there))]
+    pub fn set(&mut self, number: u64, row: Row) -> Result<bool, Memory>
+        ensures found { IfOk result (λ found. found ≡ is_some (row_of self.old.rows number)) }
+        ensures ok { OnOk result (self.new ≡ record self.old { rows = with_row self.old.rows number row }) }
+        ensures err { OnErr result (self.new ≡ self.old) }
+    {
+        match self.place(number) {
+            Some(place) => {
+                self.exchange(place, number, row)?;
+                Ok(true)
+            }
+            None => Ok(false),
+        }
+    }
+
+    /// Takes the row of a number out and gives a copy of it; None where no row has the number. `unset` spares the copy. The cost
+    /// grows with the logarithm of the number of rows.
     pub fn remove(&mut self, number: u64) -> Result<Option<Row>, Memory>
         ensures found { IfOk result (λ row. row ≡ row_of self.old.rows number) }
         ensures ok { OnOk result (self.new ≡ record self.old { rows = without_row self.old.rows number }) }
         ensures err { OnErr result (self.new ≡ self.old) }
     {
         match self.place(number) {
-            Some(place) => Ok(Some(take_out(&mut self.rows, place).1)),
+            Some(place) => {
+                let before = copy_at(&self.rows, place)?;
+                self.take_out(place, number)?;
+                Ok(Some(before))
+            }
             None => Ok(None),
         }
     }
+
+    /// Takes the row of a number out; false where no row has the number, and then nothing has changed. After an `Err` the table is
+    /// as it was. The cost grows with the logarithm of the number of rows.
+    #[tactic(auto, using(crate::proofs::Numbers::is_there))]
+    pub fn unset(&mut self, number: u64) -> Result<bool, Memory>
+        ensures found { IfOk result (λ found. found ≡ is_some (row_of self.old.rows number)) }
+        ensures ok { OnOk result (self.new ≡ record self.old { rows = without_row self.old.rows number }) }
+        ensures err { OnErr result (self.new ≡ self.old) }
+    {
+        match self.place(number) {
+            Some(place) => {
+                self.take_out(place, number)?;
+                Ok(true)
+            }
+            None => Ok(false),
+        }
+    }
+
+    // Puts a row in the place of that of a number, which stands there.
+    fn exchange(&mut self, place: usize, number: u64, row: Row) -> Result<(), Memory>
+        requires { IsPlace self.old.rows number place }
+        ensures ok { OnOk result (self.new ≡ record self.old { rows = with_row self.old.rows number row }) }
+        ensures err { OnErr result (self.new ≡ self.old) }
+    {
+        let (rows, links, keys) = exchanged(
+            self.columns.list(),
+            self.next,
+            &self.rows,
+            &self.links,
+            &self.keys,
+            place,
+            number,
+            row,
+        )?;
+        self.rows = rows;
+        self.links = links;
+        self.keys = keys;
+        Ok(())
+    }
+
+    // Takes the row of a number out, which stands there.
+    fn take_out(&mut self, place: usize, number: u64) -> Result<(), Memory>
+        requires { IsPlace self.old.rows number place }
+        ensures ok { OnOk result (self.new ≡ record self.old { rows = without_row self.old.rows number }) }
+        ensures err { OnErr result (self.new ≡ self.old) }
+    {
+        let (rows, links, keys) = without(
+            self.columns.list(),
+            self.next,
+            &self.rows,
+            &self.links,
+            &self.keys,
+            place,
+            number,
+        )?;
+        self.rows = rows;
+        self.links = links;
+        self.keys = keys;
+        Ok(())
+    }
 }
 
-// Puts an item in the place of another, and gives that one back.
-fn exchange(rows: &mut List<(u64, Row)>, place: usize, item: (u64, Row)) -> (u64, Row)
-    requires { place < length rows.old }
-    ensures item { result ≡ slice_index_or rows.old place result }
-    ensures others { rows.new ≡ slice_set rows.old place item }
-{
-    let none = List::empty(rows.allocator());
-    let mut items = mem::replace(rows, none).into_vec();
-    let before = mem::replace(&mut items[place], item);
-    *rows = List::from_vec(items);
-    before
+// The test of numbers that are below one.
+#[derive(Drop)]
+struct Below {
+    number: u64,
 }
 
-// Takes out the item at a place.
-fn take_out(rows: &mut List<(u64, Row)>, place: usize) -> (u64, Row)
-    requires { place < length rows.old }
-    ensures item { result ≡ slice_index_or rows.old place result }
-    ensures others { rows.new ≡ remove rows.old place }
+impl Predicate<(u64, Row)> for Below {
+    ghost use Rattle.std.specs.Prelude.{nat_lt};
+
+    ghost test = { λ b r. nat_lt r.0 b.number };
+
+    fn passes(&self, item: &(u64, Row)) -> bool {
+        item.0 < self.number
+    }
+}
+
+// The parts with one more row at the end.
+fn pushed(
+    columns: &List<Column>,
+    number: u64,
+    rows: &Pages<(u64, Row)>,
+    links: &Pages<(LinkNo, u64)>,
+    keys: &Pages<(Key, u64)>,
+    row: Row,
+) -> Result<Parts, Memory>
+    requires { IsKept columns.now number rows.now links.now keys.now }
+    ensures rows { IfOk result (λ made. made.0 ≡ rows.now ++ (number, row) ∷ []) }
+    ensures kept { IfOk result (λ made. IsKept columns.now (number + 1) made.0 made.1 made.2) }
 {
-    let none = List::empty(rows.allocator());
-    let mut items = mem::replace(rows, none).into_vec();
-    let item = items.remove(place);
-    *rows = List::from_vec(items);
-    item
+    let alloc = columns.allocator();
+    let links = with_marks(alloc, links, row_marks(columns, &row)?, number)?;
+    let keys = with_marks(alloc, keys, row_keys(columns, &row)?, number)?;
+    let rows = appended(alloc, rows, number, row)?;
+    Ok((rows, links, keys))
+}
+
+// The parts with another row in the place of one.
+fn exchanged(
+    columns: &List<Column>,
+    next: u64,
+    rows: &Pages<(u64, Row)>,
+    links: &Pages<(LinkNo, u64)>,
+    keys: &Pages<(Key, u64)>,
+    place: usize,
+    number: u64,
+    row: Row,
+) -> Result<Parts, Memory>
+    requires kept { IsKept columns.now next rows.now links.now keys.now }
+    requires at { IsPlace rows.now number place }
+    ensures after { IfOk result (λ made. made.0 ≡ with_row rows.now number row) }
+    ensures kept { IfOk result (λ made. IsKept columns.now next made.0 made.1 made.2) }
+{
+    let alloc = columns.allocator();
+    let before = &rows.item(place).1;
+    let left = without_marks(alloc, links, row_marks(columns, before)?, number)?;
+    let links = with_marks(alloc, &left, row_marks(columns, &row)?, number)?;
+    let kept = without_marks(alloc, keys, row_keys(columns, before)?, number)?;
+    let keys = with_marks(alloc, &kept, row_keys(columns, &row)?, number)?;
+    let rows = swapped(alloc, rows, place, number, row)?;
+    Ok((rows, links, keys))
+}
+
+// The parts without a row.
+fn without(
+    columns: &List<Column>,
+    next: u64,
+    rows: &Pages<(u64, Row)>,
+    links: &Pages<(LinkNo, u64)>,
+    keys: &Pages<(Key, u64)>,
+    place: usize,
+    number: u64,
+) -> Result<Parts, Memory>
+    requires kept { IsKept columns.now next rows.now links.now keys.now }
+    requires at { IsPlace rows.now number place }
+    ensures after { IfOk result (λ made. made.0 ≡ without_row rows.now number) }
+    ensures kept { IfOk result (λ made. IsKept columns.now next made.0 made.1 made.2) }
+{
+    let alloc = columns.allocator();
+    let before = &rows.item(place).1;
+    let links = without_marks(alloc, links, row_marks(columns, before)?, number)?;
+    let keys = without_marks(alloc, keys, row_keys(columns, before)?, number)?;
+    let rows = dropped(alloc, rows, place, number)?;
+    Ok((rows, links, keys))
+}
+
+fn appended(
+    alloc: Global,
+    rows: &Pages<(u64, Row)>,
+    number: u64,
+    row: Row,
+) -> Result<Pages<(u64, Row)>, Memory>
+    ensures { IfOk result (λ made. made ≡ rows.now ++ (number, row) ∷ []) }
+{
+    rows.inserted(alloc, rows.len(), Arc::new(alloc, (number, row))?)
+}
+
+fn swapped(
+    alloc: Global,
+    rows: &Pages<(u64, Row)>,
+    place: usize,
+    number: u64,
+    row: Row,
+) -> Result<Pages<(u64, Row)>, Memory>
+    requires { IsPlace rows.now number place }
+    ensures { IfOk result (λ made. made ≡ with_row rows.now number row) }
+{
+    rows.replaced(alloc, place, Arc::new(alloc, (number, row))?)
+}
+
+fn dropped(
+    alloc: Global,
+    rows: &Pages<(u64, Row)>,
+    place: usize,
+    number: u64,
+) -> Result<Pages<(u64, Row)>, Memory>
+    requires { IsPlace rows.now number place }
+    ensures { IfOk result (λ made. made ≡ without_row rows.now number) }
+{
+    let _ = number;
+    rows.removed(alloc, place)
+}
+
+// A copy of the row at a place.
+fn copy_at(rows: &Pages<(u64, Row)>, place: usize) -> Result<Row, Memory>
+    requires { place < length rows.now }
+    ensures { IfOk result (λ made. option_map (λ r. r.1) (slice_get rows.now place) ≡ Some made) }
+{
+    rows.item(place).1.copy()
+}
+
+// A copy of the row at a place, and one of a row that takes its place.
+fn copies(rows: &Pages<(u64, Row)>, place: usize, row: &Row) -> Result<(Row, Row), Memory>
+    requires { place < length rows.now }
+    ensures before { IfOk result (λ made. option_map (λ r. r.1) (slice_get rows.now place) ≡ Some made.0) }
+    ensures after { IfOk result (λ made. made.1 ≡ row.now) }
+{
+    let before = copy_at(rows, place)?;
+    let after = row.copy()?;
+    Ok((before, after))
 }
 
 impl Copied for Table {
     fn copy(&self) -> Result<Table, Memory> {
         Ok(Table {
             version: self.version,
-            columns: self.columns.copy()?,
+            columns: self.columns.share()?,
             next: self.next,
-            rows: self.rows.copy()?,
+            rows: self.rows.share()?,
+            links: self.links.share()?,
+            keys: self.keys.share()?,
         })
     }
 }
@@ -230,7 +543,7 @@ impl Same for Table {
     fn same(&self, other: &Table) -> bool {
         self.version == other.version
             && self.next == other.next
-            && self.columns.same(&other.columns)
+            && self.columns.list().same(other.columns.list())
             && self.rows.same(&other.rows)
     }
 }

@@ -1,15 +1,16 @@
 // Tables by name.
-ghost use Rattle.std.specs.Prelude.{◌≡◌, ◌↔◌, IsTrue, ◌+◌, ◌++◌, ◌∷◌, [], None, IfOk, OnOk, OnErr, length, map, drop, slice_get, is_some, MatchOption, ◌==◌};
+ghost use Rattle.std.specs.Prelude.{◌≡◌, ◌↔◌, IsTrue, ◌+◌, ◌++◌, ◌∷◌, [], None, IfOk, OnOk, OnErr, length, map, drop, slice_get, is_some, MatchOption, ◌==◌, ◌<◌, ◌^◌};
 ghost use Rattle.std.specs.Borrow.{sem};
 ghost use Rattle.std.specs.Cmp.Lexicographic.{pointwise};
 ghost use Rattle.std.specs.List.{IsDistinct};
 ghost use Rattle.std.specs.Option.{option_copied, option_copied_mut, option_map};
 ghost use Rattle.indexmap.specs.IndexMap.{insert_entry};
+ghost use Rattle.meaning_tables.specs.First.{first_cell};
 ghost use Rattle.meaning_tables.specs.Tables.{table_of, with_table, without_table, new_table};
 ghost use Rattle.sql_table.specs.Lending.{LendsTable};
 
 use crate::Table;
-use dl_base::{Column, Copied, List, Memory, Name, Same};
+use dl_base::{Column, Copied, LinkNo, List, Memory, Name, Same};
 use indexmap::IndexMap;
 use std::alloc::Global;
 use std::marker::Model;
@@ -88,7 +89,8 @@ impl Tables {
         ensures ok { OnOk result (self.new ≡ self.old ++ (name, new_table columns) ∷ []) }
         ensures err { OnErr result (self.new ≡ self.old) }
     {
-        self.entries.insert(name, Table::new(columns))?;
+        let table = Table::made(*self.entries.allocator(), columns)?;
+        self.entries.insert(name, table)?;
         Ok(())
     }
 
@@ -114,7 +116,27 @@ impl Tables {
         Ok(made)
     }
 
-    /// The same tables once more.
+    /// The place of the table, from 0 in order of creation, and the row number of the first cell with a link number, in the order
+    /// of `links`; None where no cell has it. It takes no memory. The cost grows with the number of tables, and with the logarithm
+    /// of the number of links of each.
+    pub fn by_link(&self, link: LinkNo) -> Option<(u32, u64)>
+        requires { length self.now < 2 ^ 32 }
+        ensures { result ≡ first_cell link 0 self.now }
+    {
+        for i in 0..self.len() {
+            match self.at(i) {
+                Some((_, table)) => {
+                    if let Some(number) = table.first_link(link) {
+                        return Some((i as u32, number));
+                    }
+                }
+                None => return None,
+            }
+        }
+        None
+    }
+
+    /// The same tables once more. They share their rows and columns with these, so the cost grows with their names alone.
     pub fn copy(&self) -> Result<Tables, Memory>
         ensures { IfOk result (λ made. made ≡ self.now) }
     {

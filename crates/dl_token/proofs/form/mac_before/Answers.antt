@@ -1,7 +1,7 @@
 use Rattle.std.proofs.Common.{◌≡◌, ℕ, List, ◌∷◌, ◌∙◌, ap, sym, take, drop}
 use Rattle.std.proofs.lemmas.List.{take_rest}
 use Rattle.hex.specs.Hex.{decode_of}
-use Rattle.meaning_files.specs.Tokens.{decoded}
+use Rattle.dl_token.specs.Tokens.{decoded}
 use Rattle.dl_token.proofs.Forms.{behind_mac, mac_found}
 use Rattle.dl_token.proofs.form.mac_before.Goals as goal
 

@@ -1,7 +1,7 @@
 use Rattle.std.proofs.Common.{◌≡◌, ◌∙◌, sym, ap, refl, Some}
 use Rattle.std.specs.Result.{result_ok}
 use Rattle.hex.specs.Hex.{decode_of}
-use Rattle.meaning_files.specs.Tokens.{decoded}
+use Rattle.dl_token.specs.Tokens.{decoded}
 use Rattle.dl_token.proofs.Forms.{mac_read}
 use Rattle.dl_token.proofs.form.mac_of.Goals as goal
 

@@ -1,5 +1,5 @@
 use Rattle.std.proofs.Common.{ap, drop, ◌+◌, ◌∙◌}
-use Rattle.meaning_files.specs.Tokens.{begins_with_token, digit_count, last_name, token_of}
+use Rattle.dl_token.specs.Tokens.{begins_with_token, digit_count, last_name, token_of}
 use Rattle.dl_token.proofs.Forms.{named, of_token}
 use Rattle.dl_token.proofs.laws.form_is_of_a_token.Goals as goal
 

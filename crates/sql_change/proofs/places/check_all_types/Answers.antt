@@ -8,11 +8,11 @@ use Rattle.sql_change.proofs.Columns.{left}
 use Rattle.sql_change.proofs.places.check_all_types.Goals as goal
 
 pub returns-in-Err : goal.returns-in-Err
-returns-in-Err c memory =
+returns-in-Err c =
     let step = assigned c.args.columns.now c.args.places.now in
     let at = left c.as_slice-one-items.result.now c.args.types.now c.loop-one.one-index c.one-item.result c.as_slice-one-items.ensures c.loop-one-test.true c.one-item.is in
     stop_each step c.args.types.now c.in-Err.fault
-    (sym c.loop-one.invariant ∙ ap (λ (ts : List (List SqlType)). cleared step ts) at ∙ stops_first step c.one-item.result (drop (c.loop-one.one-index + 1) c.args.types.now) c.in-Err.fault (c.in-Err.ensures memory))
+    (sym c.loop-one.invariant ∙ ap (λ (ts : List (List SqlType)). cleared step ts) at ∙ stops_first step c.one-item.result (drop (c.loop-one.one-index + 1) c.args.types.now) c.in-Err.fault c.in-Err.ensures)
 
 pub returns : goal.returns
 returns c =

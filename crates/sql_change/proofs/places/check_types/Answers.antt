@@ -16,7 +16,7 @@ returns-then-given-i c =
     pass_each (λ (p : ℕ × SqlType). typed (is_assignable (kind_of_column c.args.columns.now p.0) p.1) p.1) (zip c.args.places.now c.args.types.now) (sym c.loop-i.invariant ∙ ap (λ (ps : List (ℕ × SqlType)). cleared (λ (p : ℕ × SqlType). typed (is_assignable (kind_of_column c.args.columns.now p.0) p.1) p.1) ps) none)
 
 pub returns-then-not-is_assignable : goal.returns-then-not-is_assignable
-returns-then-not-is_assignable c memory =
+returns-then-not-is_assignable c =
     let stop : cleared (λ (p : ℕ × SqlType). typed (is_assignable (kind_of_column c.args.columns.now p.0) p.1) p.1) (zip (drop c.loop-i.i c.args.places.now) (drop c.loop-i.i c.args.types.now)) ≡ Err faults.TypeFault = grind (arith, common_steps) in
     stop_each (λ (p : ℕ × SqlType). typed (is_assignable (kind_of_column c.args.columns.now p.0) p.1) p.1) (zip c.args.places.now c.args.types.now) faults.TypeFault (sym c.loop-i.invariant ∙ stop)
 

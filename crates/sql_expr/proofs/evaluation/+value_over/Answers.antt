@@ -5,9 +5,9 @@ use Rattle.dl_base.specs.declared.sql_fault.SqlFault.{SqlFault}
 use Rattle.dl_base.specs.declared.value.Value.{Value}
 use Rattle.dl_base.specs.declared.statement.Expr.{Expr}
 use Rattle.meaning_sql.specs.Datalinks.{accessed}
-use Rattle.meaning_sql.specs.Faults.{◌>>=◌, Gives}
+use Rattle.meaning_sql.specs.Faults.{◌>>=◌, Computes}
 use Rattle.meaning_sql.specs.Operators.{gathered}
-use Rattle.meaning_sql.specs.Values.{meaning, said}
+use Rattle.meaning_sql.specs.Values.{meaning, denotation}
 use Rattle.sql_expr.proofs.Equations.{meaning-Aggregate, meaning-Access}
 use Rattle.sql_expr.proofs.evaluation.+value_over.Goals as goal
 
@@ -25,5 +25,5 @@ returns-in-Ok-value_over-4 t c =
     let h = c.part_of.ensures _ said_here in
     let q = ap (λ (x : Expr). meaning c.args.columns.now c.args.context.now c.args.group.now x c.args.row.now) c.in-Access.is ∙ meaning-Access c.args.columns.now c.args.context.now c.args.group.now c.in-Access.part c.in-Access.inner c.args.row.now in
     let m : meaning c.args.columns.now c.args.context.now c.args.group.now c.in-Access.inner c.args.row.now ≡ Ok c.in-Ok-value_over-4.x = rw (← c.get-in-Access.ensures) c.in-Ok-value_over-4.ensures in
-    let u = (said c.args.columns.now c.args.context.now c.args.group.now c.in-Access.inner).under in
-    subst (λ (r : Result Value SqlFault). Gives (λ v. v) c.part_of.result r) (sym (q ∙ ap (λ (r : Result Value SqlFault). r >>= λ x. Ok (accessed c.args.context.now u c.in-Access.part x)) m)) h
+    let u = (denotation c.args.columns.now c.args.context.now c.args.group.now c.in-Access.inner).under in
+    subst (λ (r : Result Value SqlFault). Computes (λ v. v) c.part_of.result r) (sym (q ∙ ap (λ (r : Result Value SqlFault). r >>= λ x. Ok (accessed c.args.context.now u c.in-Access.part x)) m)) h

@@ -1,6 +1,6 @@
 use Rattle.std.proofs.Common.{◌≡◌, drop}
 use Rattle.sql_grammar.specs.Machine.{run}
-use Rattle.sql_grammar.specs.Lang.{expression_at}
+use Rattle.sql_grammar.specs.Readers.{expression_at}
 use Rattle.sql_precedence.specs.Views.{state_of}
 use Rattle.sql_precedence.proofs.reader.expression.Given as goal
 

@@ -1,9 +1,8 @@
 use Rattle.std.proofs.Common.{◌≡◌, ◌≤◌, ◌+◌, ◌++◌, ℕ, Bool, true, false, List, [], ◌∷◌, drop, map, Ok, if◌then◌else◌, subst, sym, ap, ◌∙◌, arith, rules}
 use Rattle.dl_base.specs.declared.value.Row.{Row}
-use Rattle.meaning_sql.specs.Faults.{next}
+use Rattle.meaning_sql.specs.Faults.{and_then, option_list}
 use Rattle.meaning_statements.specs.Changing.{updated_row, updated_rows}
-use Rattle.meaning_statements.specs.Conditions.{holds_all}
-use Rattle.meaning_statements.specs.Lists.{option_list}
+use Rattle.meaning_sql.specs.Conditions.{holds_all}
 use Rattle.meaning_tables.specs.Tables.{Rise}
 use Rattle.sql_rows.proofs.Rising.{rise_changed}
 use Rattle.sql_rows.proofs.OneUpdated.{behind_all, one_updated}
@@ -32,7 +31,7 @@ loop-i-preserved c =
       few = search rules;
       count = subst (λ (n : ℕ). n ≤ c.loop-i.i + 1) (sym c.with_one-count.ensures) (one_at_most met c.loop-i.count c.loop-i.i c.loop-i.invariant.count);
       put = rw (pushed, c.with_one-count.ensures) (sym (one_updated c.args.all.now c.args.context.now t.columns conditions c.args.places.now rights c.loop-i.k made c.loop-i.count number row rest met put.values put.next holds becomes))
-          ∙ ap (λ (rs : List (ℕ × Row)). next (updated_rows c.args.all.now c.args.context.now t.columns conditions c.args.places.now rights c.loop-i.k rs) (behind_all made c.loop-i.count)) (sym at) ∙ c.loop-i.invariant.put;
+          ∙ ap (λ (rs : List (ℕ × Row)). and_then (updated_rows c.args.all.now c.args.context.now t.columns conditions c.args.places.now rights c.loop-i.k rs) (behind_all made c.loop-i.count)) (sym at) ∙ c.loop-i.invariant.put;
       rise = subst (λ (rs : List (ℕ × Row)). Rise 0 t.next (rs ++ rest)) (sym pushed)
           (rise_changed 0 t.next made number row (record { values = put.values }) rest (subst (λ (rs : List (ℕ × Row)). Rise 0 t.next (made ++ rs)) at c.loop-i.invariant.rise));
     }

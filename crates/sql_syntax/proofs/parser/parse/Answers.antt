@@ -2,7 +2,7 @@ use Rattle.std.proofs.Common.{◌≡◌, ℕ, List, Result, Ok, Err, sym, subst}
 use Rattle.sql_lex.specs.declared.lexeme.Lexeme.{Lexeme}
 use Rattle.sql_lex.specs.declared.lexeme.LexFault.{LexFault}
 use Rattle.sql_lex.specs.declared.lexeme.LexFault.TheVariants.{BadChar}
-use Rattle.sql_lex.specs.Lexes.{Gives}
+use Rattle.sql_lex.specs.Lexes.{AnswersLexing}
 use Rattle.sql_syntax.specs.declared.parser.ParseFault.TheVariants as fault
 use Rattle.sql_syntax.specs.Parsing.{Agrees}
 use Rattle.sql_syntax.proofs.Parsed.{Alone, is_exact, is_only, is_bad_only}
@@ -29,8 +29,8 @@ none_ys j ys e = cc
 same_k : (j k : ℕ) → bad k ≡ bad j → j ≡ k
 same_k j k e = cc
 
-is_bad : (f : LexFault) (j : ℕ) (r : Lexed) → f ≡ BadChar j → Gives (Err f) r → r ≡ bad j
-is_bad f j r e h = subst (λ (f : LexFault). Gives (Err f) r) e h
+is_bad : (f : LexFault) (j : ℕ) (r : Lexed) → f ≡ BadChar j → AnswersLexing (Err f) r → r ≡ bad j
+is_bad f j r e h = subst (λ (f : LexFault). AnswersLexing (Err f) r) e h
 
 pub returns-in-Ok-clause-exact : goal.returns-in-Ok-clause-exact
 returns-in-Ok-clause-exact c =

@@ -1,6 +1,6 @@
 use Rattle.std.proofs.Common.{◌≡◌, ◌+◌, sym, ap, subst, ◌∙◌, arith, add-one}
-use Rattle.sql_grammar.specs.Lang.{listed_at}
-use Rattle.sql_precedence.specs.Results.{Fails}
+use Rattle.sql_grammar.specs.Readers.{listed_at}
+use Rattle.sql_precedence.specs.Results.{FailsReading}
 use Rattle.sql_syntax.proofs.Loops.{comma, led, led_at, begins_list, no_list, goes_on, fails}
 use Rattle.sql_syntax.proofs.part.commas.Goals as goal
 
@@ -18,7 +18,7 @@ returns-in-Err-read g c =
     let at = c.commas.at in
     let test = sym c.stands.ensures.stands ∙ c.commas-test.true in
     let e : led R ws at ≡ R ws (at + 1) = led_at R ws at test ∙ ap (R ws) (sym (add-one at)) in
-    fails comma (led R) c.commas.list ws at (listed_at R ws c.args.from) c.in-Err-read.refused test (subst (Fails c.in-Err-read.refused) (sym e) c.in-Err-read.ensures) c.commas.invariant
+    fails comma (led R) c.commas.list ws at (listed_at R ws c.args.from) c.in-Err-read.refused test (subst (FailsReading c.in-Err-read.refused) (sym e) c.in-Err-read.ensures) c.commas.invariant
 
 pub commas-smaller : goal.commas-smaller
 commas-smaller g c =

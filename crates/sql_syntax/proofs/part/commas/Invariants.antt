@@ -1,5 +1,5 @@
 use Rattle.std.proofs.Common.{◌-◌, ◌+◌, length}
-use Rattle.sql_grammar.specs.Lang.{listed_at}
+use Rattle.sql_grammar.specs.Readers.{listed_at}
 use Rattle.sql_syntax.proofs.Loops.{ReadSoFar, comma, led}
 use Rattle.sql_syntax.proofs.part.commas.Given as goal
 

@@ -1,5 +1,5 @@
 use Rattle.std.proofs.Common.{sym, ◌∙◌, arith}
-use Rattle.sql_grammar.specs.Lang.{many_at}
+use Rattle.sql_grammar.specs.Readers.{many_at}
 use Rattle.sql_syntax.proofs.Loops.{at_first, goes_on, within_by}
 use Rattle.sql_syntax.proofs.part.many.Goals as goal
 

@@ -1,5 +1,5 @@
 use Rattle.std.proofs.Common.{◌-◌, ◌+◌, length}
-use Rattle.sql_grammar.specs.Lang.{many_at}
+use Rattle.sql_grammar.specs.Readers.{many_at}
 use Rattle.sql_syntax.proofs.Loops.{ReadSoFar}
 use Rattle.sql_syntax.proofs.part.many.Given as goal
 

@@ -1,20 +1,34 @@
-use Rattle.std.proofs.Common.{◌≡◌, rules, subst, ap}
-use Rattle.std.proofs.lemmas.List.Sorted.{answers_always}
-use Rattle.meaning_tables.specs.Tables.{Rows, Rise}
-use Rattle.sql_table.proofs.Numbers.{searchable, hit, miss}
+use Rattle.std.proofs.Common.{◌≡◌, ℕ, None, Some, subst, ap, sym, ◌∙◌}
+use Rattle.std.specs.List.{slice_get}
+use Rattle.dl_base.specs.declared.value.Row.{Row}
+use Rattle.meaning_tables.specs.Tables.{Rows, Rise, row_of}
+use Rattle.sql_table.specs.Places.{IsPlace}
+use Rattle.sql_table.proofs.Numbers.{falls, hit, miss}
 use Rattle.sql_table.proofs.table.Table.place.Goals as goal
 
--- the closure gives a row's number, and the numbers rise
-pub returns-in-Ok : goal.returns-in-Ok
-returns-in-Ok c =
-    let rise = subst (λ (t : Rows). Rise 0 t.next t.rows) c.self.view_is c.self.invariant in
+pub returns-then-row-number : goal.returns-then-row-number
+returns-then-row-number c =
     let same : c.self.inside.rows ≡ c.args.self.now.rows = ap (λ (t : Rows). t.rows) c.self.view_is in
-    let by_number = c.in-Ok.ensures.position (λ row. row.0) (answers_always _ _ _ (λ f a r g called. search rules)) in
-    hit c.args.self.now.next c.args.number c.args.self.now.rows c.in-Ok.place rise (search rules) (rw (c.as_slice.ensures, same) at by_number)
+    subst (λ rows. IsPlace rows c.args.number c.partition_point-place.result) same (hit c.self.inside.next c.args.number c.partition_point-place.result c.self.inside.rows c.in-Some.row.now c.self.invariant.rise (sym c.in-Some.ensures) c.if-row-number.true)
 
-pub returns-in-Err : goal.returns-in-Err
-returns-in-Err c =
-    let rise = subst (λ (t : Rows). Rise 0 t.next t.rows) c.self.view_is c.self.invariant in
+pub returns-else-row-number : goal.returns-else-row-number
+returns-else-row-number c =
     let same : c.self.inside.rows ≡ c.args.self.now.rows = ap (λ (t : Rows). t.rows) c.self.view_is in
-    let by_number = c.in-Err.ensures.position (λ row. row.0) (answers_always _ _ _ (λ f a r g called. search rules)) in
-    miss c.args.number c.args.self.now.rows c.in-Err.field-0 (rw (c.as_slice.ensures, same) at by_number (searchable c.args.self.now.next c.args.number c.args.self.now.rows rise))
+    let point = c.partition_point-place.ensures.point (falls 0 c.self.inside.next c.args.number c.self.inside.rows c.self.invariant.rise) in
+    let is : slice_get c.self.inside.rows c.partition_point-place.result ≡ Some c.in-Some.row.now = sym c.in-Some.ensures in
+    let other : (item : ℕ × Row) → slice_get c.self.inside.rows c.partition_point-place.result ≡ Some item → item.0 ≡ c.args.number → ⊥ = λ item at e. c.if-row-number.false (ap (λ (r : ℕ × Row). r.0) (one _ _ (sym is ∙ at)) ∙ e) in
+    subst (λ rows. row_of rows c.args.number ≡ None) same (miss 0 c.self.inside.next c.args.number c.partition_point-place.result c.self.inside.rows c.self.invariant.rise point other)
+  where
+    one : (a b : ℕ × Row) → Some a ≡ Some b → a ≡ b
+    one a b e = cc e
+
+pub returns-in-None : goal.returns-in-None
+returns-in-None c =
+    let same : c.self.inside.rows ≡ c.args.self.now.rows = ap (λ (t : Rows). t.rows) c.self.view_is in
+    let point = c.partition_point-place.ensures.point (falls 0 c.self.inside.next c.args.number c.self.inside.rows c.self.invariant.rise) in
+    let is : slice_get c.self.inside.rows c.partition_point-place.result ≡ None = sym c.in-None.ensures in
+    let other : (item : ℕ × Row) → slice_get c.self.inside.rows c.partition_point-place.result ≡ Some item → item.0 ≡ c.args.number → ⊥ = λ item at e. clash item (sym is ∙ at) in
+    subst (λ rows. row_of rows c.args.number ≡ None) same (miss 0 c.self.inside.next c.args.number c.partition_point-place.result c.self.inside.rows c.self.invariant.rise point other)
+  where
+    clash : (a : ℕ × Row) → None ≡ Some a → ⊥
+    clash a e = cc e

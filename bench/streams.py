@@ -1,0 +1,235 @@
+#!/usr/bin/env python3
+"""Runs the built program where its surroundings fail: closed streams, a folder that another run has, a kill, a full disk,
+output that nobody takes, and each end that has a status of its own. It looks at the status, at what was told, and at what
+stands in the folder afterwards. Prints a line for each, and ends with 1 where one is not as it should be.
+
+    bench/streams.py [PROGRAM]
+"""
+import fcntl
+import os
+import resource
+import signal
+import subprocess
+import sys
+import tempfile
+import time
+
+ROOT = os.path.dirname(os.path.dirname(os.path.abspath(__file__)))
+BUILT = os.path.join(ROOT, "crates", "datalinks_main", "out", "datalinks_main")
+FILES = "datalinks.files"
+FIRST = b"@ann create /a one\n"
+READ = b"@ann read /a\n"
+READ_TOLD = b"1: bytes 3\n1| one\n"
+bad = []
+
+
+def program():
+    if len(sys.argv) > 1:
+        return os.path.abspath(sys.argv[1])
+    subprocess.run([os.path.join(ROOT, "bin", "datalinks")], stdin=subprocess.DEVNULL, stderr=subprocess.DEVNULL)
+    return BUILT
+
+
+PROGRAM = program()
+
+
+def check(name, holds, why=""):
+    print(f"{'ok ' if holds else 'BAD'}  {name}{'' if holds else '  ' + str(why)}", flush=True)
+    if not holds:
+        bad.append(name)
+
+
+def run(folder, script=b"", words=("run",), before=None, **streams):
+    """Status, what was told, and what stands on standard error; None for a stream that was given another way."""
+    given = dict(stdin=subprocess.PIPE, stdout=subprocess.PIPE, stderr=subprocess.PIPE)
+    given.update(streams)
+    process = subprocess.Popen([PROGRAM, *words], cwd=folder, preexec_fn=before, **given)
+    told, complaint = process.communicate(script if given["stdin"] == subprocess.PIPE else None, timeout=110)
+    return process.returncode, told, complaint
+
+
+def content(folder):
+    held = {}
+    for name in sorted(os.listdir(folder)):
+        with open(os.path.join(folder, name), "rb") as file:
+            held[name] = file.read()
+    return held
+
+
+def extends(old, new):
+    """Whether the areas still begin with the records that they had; an area's last byte is the gate that the next record opens."""
+    return all(name in new and new[name].startswith(old[name][:-1]) for name in old)
+
+
+def with_file(folder):
+    status, told, _ = run(folder, FIRST)
+    assert (status, told) == (0, b"1: ok\n"), (status, told)
+    return content(folder)
+
+
+def reads_again(folder):
+    return run(folder, READ)[:2] == (0, READ_TOLD)
+
+
+def acknowledged(folder, told):
+    """Whether each create that was told is there: line n makes /fn."""
+    numbers = [line.split(b":")[0] for line in told.split(b"\n")[:-1] if line.endswith(b": ok")]
+    script = b"".join(b"@ann read /f%s\n" % n for n in numbers)
+    status, text, complaint = run(folder, script)
+    want = b"".join(b"%d: bytes 1\n%d| x\n" % (i + 1, i + 1) for i in range(len(numbers)))
+    return status == 0 and text == want
+
+
+def creates(count):
+    return b"".join(b"@ann create /f%d x\n" % (i + 1) for i in range(count))
+
+
+def closed_streams():
+    script = b"@ann create /b two\n" + READ
+    for closed in range(8):
+        shut = [fd for fd in (0, 1, 2) if closed & (1 << fd)]
+        name = "closed: " + (", ".join(map(str, shut)) or "none")
+        want = 4 if 0 in shut else 3 if 1 in shut else 0
+        with tempfile.TemporaryDirectory() as folder:
+            old = with_file(folder)
+
+            def close(shut=shut):
+                for fd in shut:
+                    os.close(fd)
+
+            status, told, complaint = run(folder, script, before=close)
+            new = content(folder)
+            check(f"{name}: status {want}", status == want, status)
+            check(f"{name}: the areas have what they had", extends(old, new) and reads_again(folder), new)
+            if want == 4:
+                check(f"{name}: nothing is written", new == old, new)
+            if want == 0:
+                check(f"{name}: all is told", told == b"1: ok\n2: bytes 3\n2| one\n", told)
+            else:
+                check(f"{name}: nothing is told", told == b"", told)
+            if 2 not in shut and want:
+                check(f"{name}: the status is on standard error", complaint == b"datalinks: status %d\n" % want, complaint)
+    with tempfile.TemporaryDirectory() as folder:
+
+        def close_all():
+            for fd in (0, 1, 2):
+                os.close(fd)
+
+        status, _, _ = run(folder, before=close_all)
+        check("closed: all, in an empty folder: no file is made", status == 4 and content(folder) == {}, (status, content(folder)))
+
+
+def locked_folder():
+    with tempfile.TemporaryDirectory() as folder:
+        old = with_file(folder)
+        held = os.open(folder, os.O_RDONLY)
+        fcntl.flock(held, fcntl.LOCK_EX)
+        status, told, complaint = run(folder, creates(3))
+        check("a locked folder: status 3, nothing told", (status, told) == (3, b""), (status, told))
+        check("a locked folder: nothing written", content(folder) == old)
+        os.close(held)
+        check("a folder that is free again", reads_again(folder))
+    with tempfile.TemporaryDirectory() as folder:
+        first = subprocess.Popen([PROGRAM, "run"], cwd=folder, stdin=subprocess.PIPE, stdout=subprocess.PIPE)
+        first.stdin.write(creates(3000))
+        first.stdin.close()
+        began = first.stdout.readline()
+        status, told, _ = run(folder, creates(3000))
+        rest = first.stdout.read()
+        first.wait()
+        told_first = began + rest
+        if status == 0:
+            check("two at once: the second began when the first had ended", first.returncode == 0, first.returncode)
+        else:
+            check("two at once: the second has status 3 and tells nothing", (status, told) == (3, b""), (status, told))
+        check("two at once: the first tells each line", first.returncode == 0 and told_first.count(b": ok\n") == 3000)
+        check("two at once: what the first told is there", acknowledged(folder, told_first))
+
+
+def killed():
+    for lines in (1, 7, 100):
+        with tempfile.TemporaryDirectory() as folder:
+            process = subprocess.Popen([PROGRAM, "run"], cwd=folder, stdin=subprocess.PIPE, stdout=subprocess.PIPE)
+            process.stdin.write(creates(3000))
+            process.stdin.close()
+            told = b"".join(process.stdout.readline() for _ in range(lines))
+            process.send_signal(signal.SIGKILL)
+            told += process.stdout.read()
+            process.wait()
+            told = told[: told.rfind(b"\n") + 1]
+            check(f"killed behind line {lines}: what was told is there", acknowledged(folder, told))
+
+
+def full_disk():
+    with tempfile.TemporaryDirectory() as folder:
+
+        def limit():
+            signal.signal(signal.SIGXFSZ, signal.SIG_IGN)
+            resource.setrlimit(resource.RLIMIT_FSIZE, (1000, 1000))
+
+        status, told, _ = run(folder, creates(100), before=limit)
+        check("no room in a file: status 3", status == 3, status)
+        check("no room in a file: what was told is there", told.count(b": ok\n") > 5 and acknowledged(folder, told), told)
+    with tempfile.TemporaryDirectory() as folder:
+        mounted = subprocess.run(["mount", "-t", "tmpfs", "-o", "size=64k", "tmpfs", folder], stderr=subprocess.DEVNULL)
+        if mounted.returncode:
+            print("     a full disk: left out, since nothing can be mounted here")
+        else:
+            try:
+                status, told, _ = run(folder, creates(3000))
+                check("a full disk: status 3", status == 3, status)
+                check("a full disk: what was told is there", told.count(b": ok\n") > 100 and acknowledged(folder, told))
+            finally:
+                subprocess.run(["umount", folder])
+
+
+def lost_output():
+    with tempfile.TemporaryDirectory() as folder:
+        old = with_file(folder)
+        with open("/dev/full", "wb") as full:
+            status, _, _ = run(folder, READ, stdout=full)
+        check("output to a full device: status 3", status == 3, status)
+        check("output to a full device: the areas have what they had", extends(old, content(folder)) and reads_again(folder))
+        for name, restore in (("ignored", False), ("as the system has it", True)):
+            reading, writing = os.pipe()
+            os.close(reading)
+            status, _, _ = run(folder, READ, stdout=writing, restore_signals=restore)
+            os.close(writing)
+            check(f"a pipe that nobody reads, SIGPIPE {name}: not 0", status in (3, -signal.SIGPIPE), status)
+            check(f"a pipe that nobody reads, SIGPIPE {name}: the areas have what they had", extends(old, content(folder)) and reads_again(folder))
+
+
+def statuses():
+    def ends(name, want, script=b"", words=("run",), files=None):
+        with tempfile.TemporaryDirectory() as folder:
+            if files is not None:
+                with open(os.path.join(folder, FILES), "wb") as file:
+                    file.write(files)
+            status, told, complaint = run(folder, script, words)
+            check(f"{name}: status {want}", status == want, status)
+            check(f"{name}: nothing told", told == b"", told)
+            check(f"{name}: its line on standard error", complaint == b"datalinks: status %d\n" % want, complaint)
+            if files is not None:
+                check(f"{name}: the area stays", content(folder)[FILES] == files)
+            if want == 2:
+                check(f"{name}: no file is made", content(folder) == {})
+
+    ends("no words", 2, words=())
+    ends("an unknown word", 2, words=("walk",))
+    ends("a word that is no text", 2, words=(b"\xff",))
+    with tempfile.TemporaryDirectory() as folder:
+        status, told, _ = run(folder, stdin=os.open(folder, os.O_RDONLY))
+        check("a script that can't be read: status 4", (status, told) == (4, b""), status)
+    ends("an area that is no list of records", 5, FIRST, files=b"\x01\0\0\0\0\0\0\0\x24\x01")
+    ends("an area that is full", 6, FIRST, words=("run", "--area", "45"))
+    ends("a script that is too long", 7, b"\n" * 67108865)
+
+
+closed_streams()
+locked_folder()
+killed()
+full_disk()
+lost_output()
+statuses()
+print(f"{len(bad)} not as it should be")
+sys.exit(1 if bad else 0)

@@ -1,0 +1,81 @@
+"""Tries the wrong bodies that the gate does not: the edits of crates/NAME/wrong/, each of which the prover must refuse.
+
+usage: bench/wrong.py [NAME..]     NAME is a crate; no name: every crate that has such edits
+
+It makes a copy of crates/, crates.txt and HANDLES in a temporary folder, in which the edits of wrong/ stand as the must-fail
+edits of the crates named, and no other edits are there, and runs `rt must-fail` on it, which begins with what earlier checks
+kept. It prints a line for each edit as soon as its crate is done, with the seconds that the crate took for all of them, and the
+counts. The status is 1 where an edit is not refused or not tried, else 0. Nothing in the repository is changed.
+"""
+import pathlib
+import re
+import shutil
+import subprocess
+import sys
+import tempfile
+import time
+
+ROOT = pathlib.Path(__file__).resolve().parent.parent
+LINE = re.compile(r"must-fail ([^/ ]+)/([^:]+)\.edit: (.*)")
+
+
+def with_edits():
+    return sorted(it.parent.name for it in ROOT.glob("crates/*/wrong") if any(it.glob("*.edit")))
+
+
+def copied(room, names):
+    """Writes the copy, with the edits of wrong/ in the place of the others."""
+    for name in ("crates.txt", "HANDLES"):
+        shutil.copy(ROOT / name, room / name)
+    for crate in sorted((ROOT / "crates").iterdir()):
+        left_out = ["must-fail", "wrong"] + ([] if crate.name in names else ["out"])
+        shutil.copytree(crate, room / "crates" / crate.name, ignore=shutil.ignore_patterns(*left_out), symlinks=True)
+    for name in names:
+        shutil.copytree(ROOT / "crates" / name / "wrong", room / "crates" / name / "must-fail")
+
+
+def word(text):
+    """What a line of rt says of an edit, in a word or two, and whether it is refused."""
+    if text.startswith("refused"):
+        return ("refused, by a limit of the prover alone" if "only by a limit" in text else "refused", True)
+    if text.startswith("NOT REFUSED"):
+        return ("NOT REFUSED", False)
+    return ("not tried: " + re.sub(r"^(BAD EDIT|NOT TRIED): *", "", text)[:160], False)
+
+
+def tried(room, name):
+    """Tries the edits of one crate, prints a line for each, and returns how many are refused, not refused and not tried."""
+    wanted = sorted(it.stem for it in (room / "crates" / name / "must-fail").glob("*.edit"))
+    begin = time.monotonic()
+    ran = subprocess.run(["rt", "must-fail", name], cwd=room, stdin=subprocess.DEVNULL, stdout=subprocess.PIPE, stderr=subprocess.STDOUT, text=True, errors="replace")
+    seconds = time.monotonic() - begin
+    told = {found[2]: word(found[3]) for found in map(LINE.search, ran.stdout.splitlines()) if found and found[1] == name}
+    counts = [0, 0, 0]
+    for edit in wanted:
+        said, is_refused = told.get(edit, ("not tried: rt said nothing of it", False))
+        counts[0 if is_refused else 1 if said == "NOT REFUSED" else 2] += 1
+        print(f"{name}/{edit}: {said}", flush=True)
+    print(f"{name}: {len(wanted)} edits in {seconds:.0f} seconds, {seconds / max(1, len(wanted)):.0f} each", flush=True)
+    if len(told) < len(wanted):
+        print(ran.stdout, file=sys.stderr)
+    return counts
+
+
+def main():
+    names = sys.argv[1:] or with_edits()
+    for name in names:
+        if name not in with_edits():
+            sys.exit(f"crates/{name} has no edits in wrong/")
+    refused, missed, untried = 0, 0, 0
+    with tempfile.TemporaryDirectory(prefix="wrong-") as folder:
+        room = pathlib.Path(folder)
+        copied(room, names)
+        for name in names:
+            counts = tried(room, name)
+            refused, missed, untried = refused + counts[0], missed + counts[1], untried + counts[2]
+    print(f"{refused} refused, {missed} not refused, {untried} not tried")
+    return 1 if missed or untried else 0
+
+
+if __name__ == "__main__":
+    sys.exit(main())

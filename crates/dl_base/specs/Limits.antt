@@ -1,0 +1,50 @@
+-- The bounds of the system. What would pass one is refused, and changes nothing.
+use Rattle.std.specs.Prelude.{ℕ, ◌^◌}
+
+-- columns of a table
+abbrev pub most_columns : ℕ
+most_columns = 64
+
+-- tables
+abbrev pub most_tables : ℕ
+most_tables = 256
+
+-- rows of a table
+abbrev pub most_rows : ℕ
+most_rows = 1000000
+
+-- the number of a row is below it
+abbrev pub row_numbers : ℕ
+row_numbers = 2 ^ 63
+
+-- sources of one FROM
+abbrev pub most_sources : ℕ
+most_sources = 8
+
+-- combined rows of one FROM
+abbrev pub most_combined_rows : ℕ
+most_combined_rows = 10000000
+
+-- links that one transaction draws
+abbrev pub most_links : ℕ
+most_links = 1000000
+
+-- files
+abbrev pub most_files : ℕ
+most_files = 65536
+
+-- actors of a script: its sessions and users
+abbrev pub most_actors : ℕ
+most_actors = 64
+
+-- bytes of a user's or a session's name
+abbrev pub most_actor_name_bytes : ℕ
+most_actor_name_bytes = 16
+
+-- bytes of a line, without its end
+abbrev pub most_line_bytes : ℕ
+most_line_bytes = 65536
+
+-- bytes of a script
+abbrev pub most_script_bytes : ℕ
+most_script_bytes = 67108864

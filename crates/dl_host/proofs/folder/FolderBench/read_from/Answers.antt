@@ -1,0 +1,34 @@
+use Rattle.std.proofs.Common.{◌≡◌, ℕ, List, length, Option, OnOk, sym, ◌∙◌, ap, subst}
+use Rattle.std.specs.Option.{ForSome}
+use Rattle.dl_base.specs.declared.area.Area.{Area}
+use Rattle.dl_base.specs.Outside.{Touches, portion}
+use Rattle.dl_host.proofs.Loops.{touches_still}
+use Rattle.dl_host.proofs.folder.FolderBench.read_from.Goals as goal
+
+pub read_all-requires-clause-inside : goal.read_all-requires-clause-inside
+read_all-requires-clause-inside g c =
+    let area : Area = c.args.area in
+    let o = g.H.Host.outside c.args.self.now.host in
+    let m = g.H.Host.outside c.open.new.self.host in
+    let slot = sym c.at.ensures ∙ c.in-Some.is in
+    let here : g.H.Host.area_of c.in-Some.file ≡ area = c.open.new.self.held.here area c.in-Some.file slot in
+    λ x is. c.requires x (sym (ap (λ (a : Area). m.reads a) here ∙ c.open.ensures.same) ∙ is)
+
+pub returns-in-Some-clause-value : goal.returns-in-Some-clause-value
+returns-in-Some-clause-value g c =
+    let area : Area = c.args.area in
+    let o = g.H.Host.outside c.args.self.now.host in
+    let m = g.H.Host.outside c.open.new.self.host in
+    let slot = sym c.at.ensures ∙ c.in-Some.is in
+    let here : g.H.Host.area_of c.in-Some.file ≡ area = c.open.new.self.held.here area c.in-Some.file slot in
+    subst (λ (x : Option (List ℕ)). OnOk c.read_all.result (ForSome x (λ bytes. c.read_all.new.into ≡ portion c.args.at (length c.args.into.now) bytes))) (ap (λ (a : Area). m.reads a) here ∙ c.open.ensures.same) c.read_all.ensures.value
+
+pub returns-in-Some-clause-crash : goal.returns-in-Some-clause-crash
+returns-in-Some-clause-crash g c =
+    let area : Area = c.args.area in
+    let o = g.H.Host.outside c.args.self.now.host in
+    let m = g.H.Host.outside c.open.new.self.host in
+    let slot = sym c.at.ensures ∙ c.in-Some.is in
+    let here : g.H.Host.area_of c.in-Some.file ≡ area = c.open.new.self.held.here area c.in-Some.file slot in
+    let n = g.H.Host.outside c.read_all.new.host in
+    touches_still area (o.image area) o m n c.open.ensures.crash (subst (λ (a : Area). Touches a (m.image a) m n) here c.read_all.ensures.crash)

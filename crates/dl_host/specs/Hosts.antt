@@ -1,0 +1,32 @@
+-- What a run holds of its folder, and how its files are named.
+use Rattle.std.specs.Prelude.{◌≡◌, ℕ, ◌+◌, ◌-◌, ◌^◌, min, Bool, true, if◌then◌else◌, List, codes}
+use Rattle.dl_base.specs.declared.area.Area.{Area}
+use Rattle.dl_base.specs.declared.area.Area.TheVariants.{Rows, Links, Files, Archive, Backups}
+use Rattle.dl_base.specs.Outside.{Outside}
+
+pub record Hold : Type 0 where
+  -- no other run has the folder
+  pub has_lock : Bool
+  -- the name of the area's file outlives a crash
+  pub is_named : Area → Bool
+
+-- what was held is held
+pub record Stays (old new : Hold) : Type 0 where
+  pub lock : old.has_lock ≡ true → new.has_lock ≡ true
+  pub names : (a : Area) → old.is_named a ≡ true → new.is_named a ≡ true
+
+-- the name of an area's file in the folder
+abbrev pub name_of : Area → List ℕ
+name_of Rows = codes "datalinks.rows"
+name_of Links = codes "datalinks.links"
+name_of Files = codes "datalinks.files"
+name_of Archive = codes "datalinks.archive"
+name_of Backups = codes "datalinks.backups"
+
+-- the same outside, with this count of faults
+abbrev pub with_faults : ℕ → Outside → Outside
+with_faults n o = record o { faults = n }
+
+-- a count of faults behind a call that failed, or not; it stands at its last value
+abbrev pub count_after : Bool → ℕ → ℕ
+count_after failed n = if failed then min (n + 1) (2 ^ 64 - 1) else n

@@ -1,0 +1,122 @@
+// What the areas and the script ask of the system, one call a method.
+ghost use Rattle.std.specs.Prelude.{◌≡◌, ◌+◌, ◌≤◌, ◌<◌, ◌^◌, Bool, true, List, ℕ, [], length, take, Option, Some, Err, IfOk, OnOk};
+ghost use Rattle.dl_base.specs.declared.area.Area.{Area};
+ghost use Rattle.std.specs.Option.{ForSome};
+ghost use Rattle.dl_base.specs.Outside.{Outside, Touches, Says, Torn, overwritten, portion, extended, IsLawful};
+ghost use Rattle.dl_base.specs.Sources.{Took};
+ghost use Rattle.dl_host.specs.Hosts.{Hold, Stays, name_of};
+
+use dl_base::Area;
+
+/// Why a call of the system did nothing, or not all.
+#[derive(Clone, Copy, Debug, PartialEq, Eq)]
+pub enum Stop {
+    /// A signal came first: nothing was done, and the call may be made again.
+    Interrupted,
+    Failed,
+}
+
+/// A folder with the areas' files, and standard output: each method is one call of the system. Nothing but the lock is
+/// asked for before the folder is locked.
+pub trait Host {
+    /// An open file.
+    type File: Drop;
+
+    /// What stands outside: what the files read, what was told, what a crash may leave, and the time. No file reads as
+    /// no bytes. The count of faults is not looked at.
+    ghost outside: { Self → Outside };
+
+    /// Whether the folder is locked for this run, and which files' names outlive a crash.
+    ghost hold: { Self → Hold };
+
+    /// The area whose file it is.
+    ghost area_of: { Self.File → Area };
+
+    /// Locks the folder, where no other run has it.
+    fn lock(&mut self) -> Result<(), Stop>
+        ensures locked { OnOk result ((hold self.new).has_lock ≡ true) }
+        ensures told { (outside self.new).told ≡ (outside self.old).told }
+        ensures crash { Says [] (outside self.old) (outside self.new) }
+        ensures stays { Stays (hold self.old) (hold self.new) };
+
+    /// Opens the file of an area, which has this name in the folder, and makes it where there is none.
+    fn open(&mut self, area: Area, name: &str) -> Result<Self::File, Stop>
+        requires locked { (hold self.old).has_lock ≡ true }
+        requires named { name.now ≡ name_of area }
+        ensures opened { IfOk result (λ file. area_of file ≡ area) }
+        ensures same { (outside self.new).reads area ≡ (outside self.old).reads area }
+        ensures crash { Touches area ((outside self.old).image area) (outside self.old) (outside self.new) }
+        ensures stays { Stays (hold self.old) (hold self.new) };
+
+    /// Syncs the folder, after which the file's name outlives a crash.
+    fn sync_folder(&mut self, file: &Self::File) -> Result<(), Stop>
+        requires locked { (hold self.old).has_lock ≡ true }
+        ensures named { OnOk result ((hold self.new).is_named (area_of file.now) ≡ true) }
+        ensures same { (outside self.new).reads (area_of file.now) ≡ (outside self.old).reads (area_of file.now) }
+        ensures crash { Touches (area_of file.now) ((outside self.old).image (area_of file.now)) (outside self.old) (outside self.new) }
+        ensures stays { Stays (hold self.old) (hold self.new) };
+
+    /// How many bytes the file has.
+    fn length(&mut self, file: &Self::File) -> Result<u64, Stop>
+        requires locked { (hold self.old).has_lock ≡ true }
+        ensures value { IfOk result (λ n. ForSome ((outside self.old).reads (area_of file.now)) (λ bytes. n ≡ length bytes)) }
+        ensures same { (outside self.new).reads (area_of file.now) ≡ (outside self.old).reads (area_of file.now) }
+        ensures crash { Touches (area_of file.now) ((outside self.old).image (area_of file.now)) (outside self.old) (outside self.new) }
+        ensures stays { Stays (hold self.old) (hold self.new) };
+
+    /// Reads bytes from there on into the front of the buffer, and says how many; maybe fewer than there are.
+    fn read_at(&mut self, file: &Self::File, at: u64, into: &mut [u8]) -> Result<usize, Stop>
+        requires locked { (hold self.old).has_lock ≡ true }
+        ensures count { IfOk result (λ n. n ≤ length into.old) }
+        ensures bytes { IfOk result (λ n. ForSome ((outside self.old).reads (area_of file.now)) (λ bytes. take n into.new ≡ portion at n bytes)) }
+        ensures same { (outside self.new).reads (area_of file.now) ≡ (outside self.old).reads (area_of file.now) }
+        ensures crash { Touches (area_of file.now) ((outside self.old).image (area_of file.now)) (outside self.old) (outside self.new) }
+        ensures stays { Stays (hold self.old) (hold self.new) };
+
+    /// Writes the first of these bytes over what is there, and past the end, and says how many. Until a sync, a crash may
+    /// leave any bytes in the range.
+    fn write_at(&mut self, file: &Self::File, at: u64, bytes: &[u8]) -> Result<usize, Stop>
+        requires locked { (hold self.old).has_lock ≡ true }
+        requires begins { ForSome ((outside self.old).reads (area_of file.now)) (λ old. at ≤ length old) }
+        requires ends { at + length bytes.now ≤ 2 ^ 63 }
+        ensures count { IfOk result (λ n. n ≤ length bytes.now) }
+        ensures written { IfOk result (λ n. (outside self.new).reads (area_of file.now) ≡ overwritten at (take n bytes.now) ((outside self.old).reads (area_of file.now))) }
+        ensures again { result ≡ Err Stop.Interrupted → (outside self.new).reads (area_of file.now) ≡ (outside self.old).reads (area_of file.now) }
+        ensures crash { Touches (area_of file.now) (Torn at (length bytes.now) ((outside self.old).image (area_of file.now))) (outside self.old) (outside self.new) }
+        ensures stays { Stays (hold self.old) (hold self.new) };
+
+    /// After it, a crash leaves what a read gives, where the file's name outlives a crash.
+    fn sync(&mut self, file: &Self::File) -> Result<(), Stop>
+        requires locked { (hold self.old).has_lock ≡ true }
+        ensures durable { OnOk result ((hold self.old).is_named (area_of file.now) ≡ true
+            → (c : List ℕ) → (outside self.new).image (area_of file.now) c → (outside self.old).reads (area_of file.now) ≡ Some c) }
+        ensures same { (outside self.new).reads (area_of file.now) ≡ (outside self.old).reads (area_of file.now) }
+        ensures crash { Touches (area_of file.now) ((outside self.old).image (area_of file.now)) (outside self.old) (outside self.new) }
+        ensures stays { Stays (hold self.old) (hold self.new) };
+
+    /// Writes the first of these bytes to standard output, and says how many. At `Failed` some front of them was told.
+    fn tell(&mut self, bytes: &[u8]) -> Result<usize, Stop>
+        requires locked { (hold self.old).has_lock ≡ true }
+        ensures count { IfOk result (λ n. n ≤ length bytes.now) }
+        ensures told { IfOk result (λ n. (outside self.new).told ≡ extended (take n bytes.now) (outside self.old).told) }
+        ensures again { result ≡ Err Stop.Interrupted → (outside self.new).told ≡ (outside self.old).told }
+        ensures crash { Says bytes.now (outside self.old) (outside self.new) }
+        ensures stays { Stays (hold self.old) (hold self.new) };
+
+    /// The system keeps the laws of a device.
+    ghost lawful: { (host : Self) → IsLawful (outside host) };
+}
+
+/// Standard input: one call of the system.
+pub trait Reader {
+    /// The bytes left, where it tells them.
+    ghost rest: { Self → Option (List ℕ) };
+
+    /// Reads the next bytes into the front of the buffer, and says how many.
+    /// At a buffer that has room it reads none only at the end.
+    fn read(&mut self, into: &mut [u8]) -> Result<usize, Stop>
+        ensures count { IfOk result (λ n. n ≤ length into.old) }
+        ensures bytes { IfOk result (λ n. Took (take n into.new) (rest self.old) (rest self.new)) }
+        ensures end { IfOk result (λ n. n ≡ 0 → 0 < length into.old → (left : List ℕ) → rest self.old ≡ Some left → left ≡ []) }
+        ensures again { result ≡ Err Stop.Interrupted → rest self.new ≡ rest self.old };
+}

@@ -1,0 +1,59 @@
+// The script, from a stream.
+ghost use Rattle.std.specs.Prelude.{◌≡◌, ◌<◌, ◌≤◌, [], List, ℕ, length, take, is_err, Some, IfOk, OnErr};
+ghost use Rattle.dl_base.specs.Sources.{Took, RoseFrom};
+ghost use Rattle.dl_host.specs.Hosts.{count_after};
+
+use crate::{Reader, Stop};
+use dl_base::{Failed, Source};
+
+/// A stream as the source of a script, which counts its faults.
+#[derive(Drop)]
+pub struct InputSource<R: Reader + Drop> {
+    reader: R,
+    faults: u64,
+}
+
+impl<R: Reader + Drop> InputSource<R> {
+    pub fn new(reader: R) -> InputSource<R>
+        ensures { result ≡ record { reader = reader; faults = 0 } }
+    {
+        InputSource { reader, faults: 0 }
+    }
+}
+
+impl<R: Reader + Drop> Source for InputSource<R> {
+    ghost rest = { λ s. R.rest s.reader };
+
+    ghost faults = { λ s. s.faults };
+
+    fn take(&mut self, into: &mut [u8]) -> Result<usize, Failed>
+        ensures count { IfOk result (λ n. n ≤ length into.old) }
+        ensures bytes { IfOk result (λ n. Took (take n into.new) (R.rest self.old.reader) (R.rest self.new.reader)) }
+        ensures end { IfOk result (λ n. n ≡ 0 → 0 < length into.old → (left : List ℕ) → R.rest self.old.reader ≡ Some left → left ≡ []) }
+        ensures never_falls { self.old.faults ≤ self.new.faults }
+        ensures cause { OnErr result (RoseFrom self.old.faults self.new.faults) }
+        ensures exactly { self.new.faults ≡ count_after (is_err result) self.old.faults }
+    {
+        let answer = read(&mut self.reader, into);
+        if answer.is_err() {
+            self.faults = self.faults.saturating_add(1);
+        }
+        answer
+    }
+}
+
+/// Reads the next bytes; an interrupted call is followed by another.
+fn read<R: Reader>(reader: &mut R, into: &mut [u8]) -> Result<usize, Failed>
+    ensures count { IfOk result (λ n. n ≤ length into.old) }
+    ensures bytes { IfOk result (λ n. Took (take n into.new) (R.rest reader.old) (R.rest reader.new)) }
+    ensures end { IfOk result (λ n. n ≡ 0 → 0 < length into.old → (left : List ℕ) → R.rest reader.old ≡ Some left → left ≡ []) }
+{
+    'more: for _ in 0..u64::MAX {
+        match reader.read(into) {
+            Ok(count) => return Ok(count),
+            Err(Stop::Interrupted) => {}
+            Err(Stop::Failed) => return Err(Failed),
+        }
+    }
+    Err(Failed)
+}

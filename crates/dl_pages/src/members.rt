@@ -1,0 +1,65 @@
+// Sets: items in order, each once, in shared pages.
+ghost use Rattle.std.specs.Prelude.{◌≡◌, IfOk};
+ghost use Rattle.std.specs.List.Sorted.{IsStrictlySortedBy};
+ghost use Rattle.std.specs.List.{slice_get};
+ghost use Rattle.dl_pages.specs.Sets.{WithMember, WithoutMember, is_at};
+
+use crate::{Ordered, Pages, Predicate};
+use dl_base::Memory;
+use std::alloc::Global;
+use std::cmp::Ordering;
+use std::sync::Arc;
+
+// The test of what is below an item.
+#[derive(Drop)]
+struct Under<'a, T> {
+    item: &'a T,
+}
+
+impl<T: Ordered> Predicate<T> for Under<'_, T> {
+    ghost use Rattle.std.specs.Ordering.{is_lt};
+
+    ghost test = { λ u x. is_lt (T.order x u.item.now) };
+
+    fn passes(&self, item: &T) -> bool {
+        item.order(self.item) == Ordering::Less
+    }
+}
+
+// Whether an item equal to this one stands at a place.
+fn stands<T: Ordered>(items: &Pages<T>, place: usize, item: &T) -> bool
+    ensures { result ≡ is_at T.order item.now (slice_get items.now place) }
+{
+    match items.at(place) {
+        Some(there) => item.order(there) == Ordering::Equal,
+        None => false,
+    }
+}
+
+/// The set with one more member; the same set where one equal to it is there. The given set stays. The cost grows with the
+/// logarithm of its size. The error is want of memory.
+pub fn with_member<T: Ordered>(alloc: Global, items: &Pages<T>, item: T) -> Result<Pages<T>, Memory>
+    ensures { IsStrictlySortedBy T.order items.now → IfOk result (λ made. WithMember T.order items.now made item) }
+{
+    let place = items.partition_point(&Under { item: &item });
+    if stands(items, place, &item) {
+        return items.share();
+    }
+    items.inserted(alloc, place, Arc::new(alloc, item)?)
+}
+
+/// The set with one member less; the same set where none is equal to it. The given set stays. The cost grows with the logarithm
+/// of its size. The error is want of memory.
+pub fn without_member<T: Ordered>(
+    alloc: Global,
+    items: &Pages<T>,
+    item: &T,
+) -> Result<Pages<T>, Memory>
+    ensures { IsStrictlySortedBy T.order items.now → IfOk result (λ made. WithoutMember T.order items.now made item.now) }
+{
+    let place = items.partition_point(&Under { item });
+    if stands(items, place, item) {
+        return items.removed(alloc, place);
+    }
+    items.share()
+}

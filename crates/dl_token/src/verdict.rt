@@ -1,0 +1,9 @@
+/// What a token is worth for reading a file at a moment.
+#[derive(Clone, Copy, Debug, PartialEq, Eq)]
+pub enum Verdict {
+    Good,
+    /// It was not made for this path, link and expiry.
+    Wrong,
+    /// It was good up to this moment, in seconds.
+    Expired(u64),
+}

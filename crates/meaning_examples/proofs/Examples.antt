@@ -1,0 +1,499 @@
+-- Worked rows: what the machine answers, and that the lists with all that was written stand for the state.
+use Rattle.std.proofs.Common.{◌≡◌, ℕ, ◌+◌, ◌-◌, ◌*◌, ◌^◌, Bool, true, false, List, [], ◌∷◌, ◌++◌, codes, Option, Some, None, refl, pos, map, cond, replicate, take, length}
+use Rattle.std.specs.Option.{option_and_then}
+use Rattle.meaning_examples.specs.Maps as maps
+use Rattle.dl_base.specs.declared.answer.Answer.{Answer}
+use Rattle.dl_base.specs.declared.answer.Answer.TheVariants as answers
+use Rattle.dl_base.specs.declared.answer.ClaimRefusal.TheVariants as claims
+use Rattle.dl_base.specs.declared.answer.FileRefusal.TheVariants as files
+use Rattle.dl_base.specs.declared.answer.Refusal.TheVariants as reasons
+use Rattle.dl_base.specs.declared.answer.RestoreRefusal.TheVariants as restores
+use Rattle.dl_base.specs.declared.answer.Why.TheVariants as whys
+use Rattle.dl_base.specs.declared.column.Column.{Column}
+use Rattle.dl_base.specs.declared.column.ColumnRule.TheVariants as rules
+use Rattle.dl_base.specs.declared.column.Kind.TheVariants as kinds
+use Rattle.dl_base.specs.declared.column.Options.{Options}
+use Rattle.dl_base.specs.declared.column.OnUnlink.TheVariants as unlink
+use Rattle.dl_base.specs.declared.column.ReadBy.TheVariants as read
+use Rattle.dl_base.specs.declared.column.WriteBy.TheVariants as write
+use Rattle.dl_base.specs.declared.file.File.{File}
+use Rattle.dl_base.specs.declared.file.FileRow.{FileRow}
+use Rattle.dl_base.specs.declared.file.FileWhat.{FileWhat}
+use Rattle.dl_base.specs.declared.file.FileWhat.TheVariants as whats
+use Rattle.dl_base.specs.declared.file.Owner.{Owner}
+use Rattle.dl_base.specs.declared.step.Phase.TheVariants as phases
+use Rattle.dl_base.specs.declared.step.Settings.{Settings}
+use Rattle.dl_base.specs.declared.step.Step.{Step}
+use Rattle.dl_base.specs.declared.step.Step.TheVariants as steps
+use Rattle.dl_base.specs.declared.step.Target.TheVariants as targets
+use Rattle.dl_base.specs.declared.value.LinkNo.{LinkNo}
+use Rattle.dl_base.specs.declared.value.Row.{Row}
+use Rattle.dl_base.specs.declared.value.Value.{Value}
+use Rattle.dl_base.specs.declared.value.Value.TheVariants as values
+use Rattle.meaning_examples.specs.Commits.{Commit, with_table_changes}
+use Rattle.dl_codec.specs.declared.files.FilesRecord.TheVariants as files_records
+use Rattle.dl_codec.specs.declared.links.LinksRecord.{LinksRecord}
+use Rattle.dl_codec.specs.declared.links.LinksRecord.TheVariants as links_records
+use Rattle.dl_codec.specs.declared.rows.RowsRecord.{RowsRecord}
+use Rattle.dl_codec.specs.declared.rows.RowsRecord.TheVariants as rows_records
+use Rattle.dl_base.specs.declared.answer.Why.{Why}
+use Rattle.meaning_examples.specs.Lists.{Folds, Written, in_rows, in_links, in_files, in_archive, in_backups, no_folds, folds_on, folds_step}
+use Rattle.meaning_examples.specs.Copies.{Backup}
+use Rattle.meaning_examples.specs.Stands.{Stored, stored_of, txs_of}
+use Rattle.meaning_examples.specs.Keyed.{Keyed}
+use Rattle.meaning_examples.specs.Settling.{Copy, settle_one}
+use Rattle.meaning_tables.specs.Tables.{Rows, Tables, new_table, table_of, with_table, with_inserted, without_table}
+use Rattle.meaning_examples.specs.Claims.{by_evaluated, with_names}
+use Rattle.meaning_examples.specs.Machine.{step, stated, start}
+use Rattle.dl_base.specs.declared.value.LinkRow.{LinkRow}
+use Rattle.meaning_tables.specs.Links.{gives, takes}
+use Rattle.meaning_examples.specs.Merging.{merge, commit_changes}
+use Rattle.meaning_examples.specs.Restoring.{restored_tables, restore_changes}
+use Rattle.meaning_examples.specs.Sql.{Evaluated}
+use Rattle.meaning_examples.specs.State.{Txn, State, txn_of, stored}
+use Rattle.meaning_examples.specs.Writes.{writes, opening}
+
+-- a step, or a statement whose plain meaning over the copy is given: of the tables, the transaction's number and the next link number
+data Act : Type 0 where
+  does : Step → Act
+  sql : ℕ → List (List ℕ) → (Tables → ℕ → ℕ → Evaluated) → Act
+
+record After : Type 0 where
+  answers : List Answer
+  state : State
+  written : List Written
+
+abbrev with_statement : State → (Tables → ℕ → ℕ → Evaluated) → List (List ℕ) → Option (ℕ × Txn) → Answer × State
+with_statement s e names None = (answers.Done, s)
+with_statement s e names (Some t) = stated s t.0 (by_evaluated s t.0 (record t.1 { named = with_names t.1.named names }) (e t.1.copy t.0 t.1.next))
+
+abbrev act : State → Act → Answer × State
+act s (does asked) = step s asked
+act s (sql session names e) = with_statement s e names (txn_of s session)
+
+abbrev act_writes : State → Act → List Written
+act_writes s (does asked) = writes s asked
+act_writes s (sql session names e) = []
+
+abbrev all_answers : State → List Act → List Answer
+all_answers s [] = []
+all_answers s (a ∷ more) = (act s a).0 ∷ all_answers (act s a).1 more
+
+abbrev last_state : State → List Act → State
+last_state s [] = s
+last_state s (a ∷ more) = last_state (act s a).1 more
+
+abbrev all_writes : State → List Act → List Written
+all_writes s [] = []
+all_writes s (a ∷ more) = act_writes s a ++ all_writes (act s a).1 more
+
+-- what of a stored part can be compared by computing
+abbrev View : Type 0
+View = List Commit × List (List ℕ × File) × List (List ℕ × Copy) × List Backup × ℕ × ℕ
+
+abbrev view : Stored → View
+view x = (x.commits, maps.entries x.files, maps.entries x.copies, x.backups, x.rows_opening, x.links_opening)
+
+abbrev given : Settings
+given = record { server = codes "fs1"; key = replicate 32 0; now = 0; life = 60; limit = 1099511627776 }
+
+abbrev first : State
+first = start given (stored_of no_folds)
+
+-- the same without tables, for long lists of steps
+abbrev Light : Type 0
+Light = List ℕ × List (List ℕ × File) × List (List ℕ × Copy) × ℕ
+
+abbrev light : Stored → Light
+light x = (txs_of x.commits, maps.entries x.files, maps.entries x.copies, x.links_opening)
+
+abbrev light_of : Option Folds → Option Light
+light_of None = None
+light_of (Some f) = Some (light (stored_of f))
+
+abbrev RecoversLight : List Act → Type 0
+RecoversLight acts = light_of (folds_on (Some no_folds) (opening no_folds ++ all_writes first acts)) ≡ Some (light (stored (last_state first acts)))
+
+abbrev view_of : Option Folds → Option View
+view_of None = None
+view_of (Some f) = Some (view (stored_of f))
+
+-- THE LISTS RECOVER TO THE STATE
+abbrev Recovers : List Act → Type 0
+Recovers acts = view_of (folds_on (Some no_folds) (opening no_folds ++ all_writes first acts)) ≡ Some (view (stored (last_state first acts)))
+
+-- names
+
+abbrev tx : ℕ → ℕ
+tx n = 2 ^ 32 + n
+
+abbrev path : List ℕ
+path = 47 ∷ 97 ∷ []
+
+abbrev ann : List ℕ
+ann = codes "ann"
+
+abbrev name : List ℕ
+name = 109 ∷ []
+
+abbrev file : List ℕ → FileWhat → Act
+file user what = does (steps.File (record { user = user; what = what }))
+
+abbrev columns : Options → List Column
+columns o = record { name = codes "id"; kind = kinds.Int; rule = rules.Key } ∷ record { name = codes "f"; kind = kinds.Linked o; rule = rules.Plain } ∷ []
+
+abbrev o1 : Options
+o1 = record { read = read.Fs; write = write.Fs; recovery = false; unlink = unlink.Nothing }
+
+abbrev o2 : Options
+o2 = record { read = read.Fs; write = write.Blocked; recovery = false; unlink = unlink.Restore }
+
+abbrev o3 : Options
+o3 = record { read = read.Fs; write = write.Blocked; recovery = true; unlink = unlink.Restore }
+
+abbrev o4 : Options
+o4 = record { read = read.Db; write = write.Blocked; recovery = false; unlink = unlink.Restore }
+
+abbrev o7 : Options
+o7 = record { read = read.Db; write = write.Blocked; recovery = true; unlink = unlink.Delete }
+
+-- statements on the table m
+
+abbrev make : Options → Tables → ℕ → ℕ → Evaluated
+make o tables t k = record { answer = answers.Done; refused = false; tables = tables ++ (name, new_table (columns o)) ∷ []; next = k }
+
+abbrev cell : List ℕ → ℕ → ℕ → Value
+cell p t k = values.Link (record { location = codes "http://fs1" ++ p; path = p; comment = []; link = Some (record { tx = t; k = k }) })
+
+abbrev on_table : (Rows → Rows) → Tables → Option Rows → Tables
+on_table f tables None = tables
+on_table f tables (Some t) = with_table tables name (f t)
+
+abbrev put : ℕ → List ℕ → Tables → ℕ → ℕ → Evaluated
+put id p tables t k = record { answer = answers.Changed 1; refused = false; tables = on_table (λ x. with_inserted x (record { values = values.Int (pos id) ∷ cell p t k ∷ [] })) tables (table_of tables name); next = k + 1 }
+
+abbrev put_null : ℕ → Tables → ℕ → ℕ → Evaluated
+put_null id tables t k = record { answer = answers.Changed 1; refused = false; tables = on_table (λ x. with_inserted x (record { values = values.Int (pos id) ∷ values.Null ∷ [] })) tables (table_of tables name); next = k }
+
+abbrev clear : Tables → ℕ → ℕ → Evaluated
+clear tables t k = record { answer = answers.Changed 1; refused = false; tables = on_table (λ x. record x { rows = [] }) tables (table_of tables name); next = k }
+
+-- a statement of session 1 or 2 in its transaction, and one by itself with what follows it
+abbrev says : ℕ → (Tables → ℕ → ℕ → Evaluated) → Act
+says session e = sql session (name ∷ []) e
+
+abbrev alone : ℕ → (Tables → ℕ → ℕ → Evaluated) → List Act
+alone session e = does (steps.Begin session) ∷ says session e ∷ does (steps.Prepare session) ∷ does (steps.Decide session) ∷ does (steps.Finish session) ∷ []
+
+abbrev commits : ℕ → List Act
+commits session = does (steps.Prepare session) ∷ does (steps.Decide session) ∷ does (steps.Finish session) ∷ []
+
+-- the answers of one statement by itself
+abbrev told : ℕ → Answer → ℕ → List Answer
+told t answer c = answers.Begun (tx t) ∷ answer ∷ answers.Done ∷ answers.Committed c ∷ answers.Done ∷ []
+
+-- a linked file is not deleted
+deleted_link : List Act
+deleted_link = file ann (whats.Create path (codes "one")) ∷ alone 1 (make o2) ++ alone 1 (put 1 path) ++ file ann (whats.Delete path) ∷ []
+
+deleted_link-answers : all_answers first deleted_link ≡ answers.Done ∷ told 1 answers.Done 1 ++ told 2 (answers.Changed 1) 2 ++ answers.Refused (reasons.File (files.Forbidden path (record { tx = tx 2; k = 1 }) whys.Delete)) ∷ []
+unfolding deleted_link step settle_one
+deleted_link-answers = refl
+
+deleted_link-recovers : Recovers deleted_link
+unfolding deleted_link step settle_one writes
+deleted_link-recovers = refl
+
+-- an opening of empty areas
+first_opening : opening no_folds ≡ in_rows (rows_records.Opening 1) ∷ in_links (links_records.Opening 1) ∷ []
+first_opening = refl
+
+-- lists with all that was written, cut behind so many records
+abbrev cut : List Act → ℕ → Option Light
+cut acts n = light_of (folds_on (Some no_folds) (opening no_folds ++ take n (all_writes first acts)))
+
+abbrev rename : Act
+rename = file ann (whats.Rename path (codes "/b"))
+
+abbrev one : File
+one = record { owner = record { name = ann; writable = false }; bytes = codes "one"; before = Some (record { name = ann; writable = true }) }
+
+abbrev link : ℕ → LinkNo
+link n = record { tx = tx n; k = 1 }
+
+abbrev forbids : LinkNo → Why → Answer
+forbids l why = answers.Refused (reasons.File (files.Forbidden path l why))
+
+abbrev begins : ℕ → Act
+begins session = does (steps.Begin session)
+
+-- a path is busy with the claim of another transaction
+two_claims : List Act
+two_claims = file ann (whats.Create path (codes "one")) ∷ alone 1 (make o2) ++ begins 1 ∷ begins 2 ∷ says 1 (put 1 path) ∷ says 2 (put 2 path) ∷ does (steps.Rollback 1) ∷ says 2 (put 2 path) ∷ commits 2 ++ rename ∷ []
+
+two_claims-answers : all_answers first two_claims ≡ answers.Done ∷ told 1 answers.Done 1 ++ answers.Begun (tx 2) ∷ answers.Begun (tx 3) ∷ answers.Changed 1 ∷ answers.Refused (reasons.Claim (claims.Busy path (tx 2)))
+    ∷ answers.Done ∷ answers.Changed 1 ∷ answers.Done ∷ answers.Committed 2 ∷ answers.Done ∷ forbids (link 3) whys.Rename ∷ []
+unfolding two_claims step settle_one
+two_claims-answers = refl
+
+two_claims-recovers : Recovers two_claims
+unfolding two_claims step settle_one writes
+two_claims-recovers = refl
+
+-- the file of a claim is gone at Prepare
+up_to_4 : List Act
+up_to_4 = file ann (whats.Create path (codes "one")) ∷ alone 1 (make o2) ++ begins 1 ∷ says 1 (put 1 path) ∷ []
+
+abbrev told_4 : List Answer
+told_4 = answers.Done ∷ told 1 answers.Done 1 ++ answers.Begun (tx 2) ∷ answers.Changed 1 ∷ []
+
+file_gone : List Act
+file_gone = up_to_4 ++ file ann (whats.Delete path) ∷ does (steps.Prepare 1) ∷ file ann (whats.Create path (codes "two")) ∷ commits 1
+
+file_gone-answers : all_answers first file_gone ≡ told_4 ++ answers.Done ∷ answers.Refused (reasons.Claim (claims.NoFile path)) ∷ answers.Done ∷ answers.Done ∷ answers.Committed 2 ∷ answers.Done ∷ []
+unfolding file_gone up_to_4 step settle_one
+file_gone-answers = refl
+
+file_gone-recovers : Recovers file_gone
+unfolding file_gone up_to_4 step settle_one writes
+file_gone-recovers = refl
+
+-- a link that is prepared forbids already
+prepared_link : List Act
+prepared_link = up_to_4 ++ does (steps.Prepare 1) ∷ rename ∷ does (steps.Decide 1) ∷ does (steps.Finish 1) ∷ file ann whats.List ∷ []
+
+prepared_link-answers : all_answers first prepared_link ≡ told_4 ++ answers.Done ∷ forbids (link 2) whys.Rename ∷ answers.Committed 2 ∷ answers.Done ∷ answers.Files (record { path = path; file = one } ∷ []) ∷ []
+unfolding prepared_link up_to_4 step settle_one
+prepared_link-answers = refl
+
+prepared_link-recovers : Recovers prepared_link
+unfolding prepared_link up_to_4 step settle_one writes
+prepared_link-recovers = refl
+
+-- one transaction gives a file and takes it again: it is archived, and stays
+given_and_taken : List Act
+given_and_taken = file ann (whats.Create path (codes "abc")) ∷ alone 1 (make o7) ++ alone 1 (put 1 path) ++ begins 1 ∷ says 1 clear ∷ says 1 (put 2 path) ∷ commits 1 ++ file ann whats.List ∷ does (steps.Archive (link 3)) ∷ []
+
+abbrev linked_file : File
+linked_file = record { owner = record { name = codes "dlfm"; writable = false }; bytes = codes "abc"; before = Some (record { name = ann; writable = true }) }
+
+given_and_taken-answers : all_answers first given_and_taken ≡ answers.Done ∷ told 1 answers.Done 1 ++ told 2 (answers.Changed 1) 2 ++ answers.Begun (tx 3) ∷ answers.Changed 1 ∷ answers.Changed 1 ∷ answers.Done ∷ answers.Committed 3 ∷ answers.Done
+    ∷ answers.Files (record { path = path; file = linked_file } ∷ []) ∷ answers.Archived 1 ∷ []
+unfolding given_and_taken step settle_one
+given_and_taken-answers = refl
+
+given_and_taken-recovers : Recovers given_and_taken
+unfolding given_and_taken step settle_one writes
+given_and_taken-recovers = refl
+
+given_and_taken-copies : map (λ e. e.0) (maps.entries (last_state first given_and_taken).copies) ≡ (tx 2 ∷ 1 ∷ []) ∷ (tx 3 ∷ 1 ∷ []) ∷ []
+unfolding given_and_taken step settle_one
+given_and_taken-copies = refl
+
+-- the flag that a file had before it was linked comes back
+original_flag : List Act
+original_flag = file ann (whats.Create path (codes "one")) ∷ file ann (whats.Chmod path false) ∷ alone 1 (make o4) ++ alone 1 (put 1 path) ++ file ann (whats.Chmod path true) ∷ alone 1 clear
+    ++ file ann (whats.Write path (codes "two")) ∷ file ann (whats.Chmod path true) ∷ file ann (whats.Write path (codes "two")) ∷ []
+
+original_flag-answers : all_answers first original_flag ≡ answers.Done ∷ answers.Done ∷ told 1 answers.Done 1 ++ told 2 (answers.Changed 1) 2 ++ forbids (link 2) whys.Chmod ∷ told 3 (answers.Changed 1) 3
+    ++ answers.Refused (reasons.File (files.ReadOnly path)) ∷ answers.Done ∷ answers.Done ∷ []
+unfolding original_flag step settle_one
+original_flag-answers = refl
+
+original_flag-recovers : Recovers original_flag
+unfolding original_flag step settle_one writes
+original_flag-recovers = refl
+
+-- ON UNLINK DELETE: the file goes, and a restore puts it back from its copy
+restored_file : List Act
+restored_file = file ann (whats.Create path (codes "abc")) ∷ alone 1 (make o7) ++ alone 1 (put 1 path) ++ alone 1 clear ++ file ann (whats.Read path None) ∷ does (steps.Restore (targets.Commit 2)) ∷ file ann whats.List ∷ does (steps.Restore (targets.Commit 9)) ∷ []
+
+restored_file-answers : all_answers first restored_file ≡ answers.Done ∷ told 1 answers.Done 1 ++ told 2 (answers.Changed 1) 2 ++ told 3 (answers.Changed 1) 3
+    ++ answers.Refused (reasons.File (files.NoFile path)) ∷ answers.Restored 4 [] ∷ answers.Files (record { path = path; file = linked_file } ∷ []) ∷ answers.Refused (reasons.Restore (restores.NoTarget 9)) ∷ []
+unfolding restored_file step settle_one
+restored_file-answers = refl
+
+restored_file-recovers : RecoversLight restored_file
+unfolding restored_file step settle_one writes
+restored_file-recovers = refl
+
+-- both sides stop between Prepare and Decide: Resolve drops, and numbers go on in the next opening
+stopped_after_the_vote : List Act
+stopped_after_the_vote = up_to_4 ++ does (steps.Prepare 1) ∷ does steps.CrashDatabase ∷ does steps.CrashManager ∷ does steps.Resolve ∷ alone 1 (put_null 5) ++ file ann (whats.Delete path) ∷ begins 1 ∷ []
+
+stopped_after_the_vote-answers : all_answers first stopped_after_the_vote ≡ told_4 ++ answers.Done ∷ answers.Done ∷ answers.Done ∷ answers.Resolved 0 1 ∷ answers.Begun (2 ^ 33 + 1) ∷ answers.Changed 1 ∷ answers.Done ∷ answers.Committed 2 ∷ answers.Done ∷ answers.Done ∷ answers.Begun (2 ^ 33 + 2) ∷ []
+unfolding stopped_after_the_vote up_to_4 step settle_one
+stopped_after_the_vote-answers = refl
+
+stopped_after_the_vote-recovers : Recovers stopped_after_the_vote
+unfolding stopped_after_the_vote up_to_4 step settle_one writes
+stopped_after_the_vote-recovers = refl
+
+-- the database stops between Decide and Finish: Resolve settles
+stopped_after_the_decision : List Act
+stopped_after_the_decision = up_to_4 ++ does (steps.Prepare 1) ∷ does (steps.Decide 1) ∷ does steps.CrashDatabase ∷ does steps.CrashManager ∷ does steps.Resolve ∷ file ann whats.List ∷ file ann (whats.Delete path) ∷ []
+
+stopped_after_the_decision-answers : all_answers first stopped_after_the_decision ≡ told_4 ++ answers.Done ∷ answers.Committed 2 ∷ answers.Done ∷ answers.Done ∷ answers.Resolved 1 0 ∷ answers.Files (record { path = path; file = one } ∷ []) ∷ forbids (link 2) whys.Delete ∷ []
+unfolding stopped_after_the_decision up_to_4 step settle_one
+stopped_after_the_decision-answers = refl
+
+stopped_after_the_decision-recovers : Recovers stopped_after_the_decision
+unfolding stopped_after_the_decision up_to_4 step settle_one writes
+stopped_after_the_decision-recovers = refl
+
+-- claims of active transactions are doomed when the manager stops; a prepared one goes on, and is dropped by Resolve
+doomed_claim : List Act
+doomed_claim = up_to_4 ++ does steps.CrashManager ∷ does (steps.Prepare 1) ∷ does (steps.Rollback 1) ∷ begins 1 ∷ says 1 (put 1 path) ∷ does (steps.Prepare 1) ∷ does steps.CrashManager ∷ does steps.Backup ∷ does steps.CrashDatabase
+    ∷ file ann (whats.Delete path) ∷ does steps.Resolve ∷ file ann (whats.Delete path) ∷ []
+
+doomed_claim-answers : all_answers first doomed_claim ≡ told_4 ++ answers.Done ∷ answers.Refused (reasons.Doomed 1 2) ∷ answers.Done ∷ answers.Begun (tx 3) ∷ answers.Changed 1 ∷ answers.Done ∷ answers.Done ∷ answers.Refused (reasons.Unfinished (tx 3))
+    ∷ answers.Done ∷ forbids (link 3) whys.Delete ∷ answers.Resolved 0 1 ∷ answers.Done ∷ []
+unfolding doomed_claim up_to_4 step settle_one
+doomed_claim-answers = refl
+
+doomed_claim-recovers : Recovers doomed_claim
+unfolding doomed_claim up_to_4 step settle_one writes
+doomed_claim-recovers = refl
+
+-- a restore of a backup is refused while another file stands in the way
+restored_backup : List Act
+restored_backup = file ann (whats.Create path (codes "one")) ∷ alone 1 (make o3) ++ alone 1 (put 1 path) ++ does (steps.Archive (link 2)) ∷ does steps.Backup ∷ alone 1 clear ++ file ann (whats.Write path (codes "two")) ∷ does (steps.Restore (targets.Backup 1))
+    ∷ file ann (whats.Delete path) ∷ does (steps.Restore (targets.Backup 1)) ∷ file ann (whats.Read path None) ∷ []
+
+restored_backup-answers : all_answers first restored_backup ≡ answers.Done ∷ told 1 answers.Done 1 ++ told 2 (answers.Changed 1) 2 ++ answers.Archived 1 ∷ answers.BackedUp 1 ∷ told 3 (answers.Changed 1) 3
+    ++ answers.Done ∷ answers.Refused (reasons.Restore (restores.InTheWay path)) ∷ answers.Done ∷ answers.Restored 4 [] ∷ answers.Bytes (codes "one") ∷ []
+unfolding restored_backup step settle_one
+restored_backup-answers = refl
+
+restored_backup-recovers : RecoversLight restored_backup
+unfolding restored_backup step settle_one writes
+restored_backup-recovers = refl
+
+-- RECOVERY NO: a restore loses the cell whose file is gone
+lost_cell : List Act
+lost_cell = file ann (whats.Create path (codes "one")) ∷ alone 1 (make o2) ++ alone 1 (put 1 path) ++ does steps.Backup ∷ alone 1 clear ++ file ann (whats.Delete path) ∷ does (steps.Restore (targets.Backup 1)) ∷ []
+
+lost_cell-answers : all_answers first lost_cell ≡ answers.Done ∷ told 1 answers.Done 1 ++ told 2 (answers.Changed 1) 2 ++ answers.BackedUp 1 ∷ told 3 (answers.Changed 1) 3 ++ answers.Done ∷ answers.Restored 4 (record { table = name; row = 1; column = codes "f"; path = path } ∷ []) ∷ []
+unfolding lost_cell step settle_one
+lost_cell-answers = refl
+
+lost_cell-recovers : RecoversLight lost_cell
+unfolding lost_cell step settle_one writes
+lost_cell-recovers = refl
+
+-- a path has one link, of one statement and of all
+abbrev put_two : Tables → ℕ → ℕ → Evaluated
+put_two tables t k = put 2 path (put 1 path tables t k).tables t (k + 1)
+
+already_linked : List Act
+already_linked = file ann (whats.Create path (codes "one")) ∷ alone 1 (make o1) ++ begins 1 ∷ says 1 put_two ∷ does (steps.Rollback 1) ∷ alone 1 (put 1 path) ++ begins 1 ∷ says 1 (put 2 path) ∷ does (steps.Rollback 1) ∷ file ann (whats.Write path (codes "two")) ∷ file ann (whats.Delete path) ∷ []
+
+already_linked-answers : all_answers first already_linked ≡ answers.Done ∷ told 1 answers.Done 1 ++ answers.Begun (tx 2) ∷ answers.Refused (reasons.Claim (claims.AlreadyLinked path (link 2))) ∷ answers.Done ∷ told 3 (answers.Changed 1) 2
+    ++ answers.Begun (tx 4) ∷ answers.Refused (reasons.Claim (claims.AlreadyLinked path (link 3))) ∷ answers.Done ∷ answers.Done ∷ forbids (link 3) whys.Delete ∷ []
+unfolding already_linked step settle_one
+already_linked-answers = refl
+
+already_linked-recovers : Recovers already_linked
+unfolding already_linked step settle_one writes
+already_linked-recovers = refl
+
+-- A STOP INSIDE A FINISH: behind each of its records the lists stand for the same. The last Finish of the steps below has their records 9 to 13.
+one_finish : List Act
+one_finish = file ann (whats.Create path (codes "abc")) ∷ alone 1 (make o7) ++ alone 1 (put 1 path) ++ begins 1 ∷ says 1 clear ∷ says 1 (put 2 path) ∷ commits 1
+
+-- the kinds of records, as letters: r and l for openings, C for a commit, P, c, d, a and E of a branch, f, A, B
+abbrev row_letter : RowsRecord → ℕ
+row_letter (rows_records.Opening n) = 114
+row_letter (rows_records.Commit t n b made) = 67
+row_letter (rows_records.Ended t) = 69
+
+abbrev link_letter : LinksRecord → ℕ
+link_letter (links_records.Opening n) = 108
+link_letter (links_records.Prepared t g k) = 80
+link_letter (links_records.Committed t) = 99
+link_letter (links_records.Done t) = 100
+link_letter (links_records.Aborted t) = 97
+
+abbrev letter : Written → ℕ
+letter (in_rows x) = row_letter x
+letter (in_links x) = link_letter x
+letter (in_files x) = 102
+letter (in_archive x) = 65
+letter (in_backups x) = 66
+
+given_and_taken-records : map letter (all_writes first one_finish) ≡ codes "fCPCcfdEPCcAdE"
+unfolding one_finish step settle_one writes
+given_and_taken-records = refl
+
+given_and_taken-cut_13 : cut one_finish 13 ≡ Some (light (stored (last_state first one_finish)))
+unfolding one_finish step settle_one writes
+given_and_taken-cut_13 = refl
+
+given_and_taken-cut_14 : cut one_finish 14 ≡ Some (light (stored (last_state first one_finish)))
+unfolding one_finish step settle_one writes
+given_and_taken-cut_14 = refl
+
+-- before its Commit record a restore is nothing, from it on it is whole
+one_restore : List Act
+one_restore = file ann (whats.Create path (codes "abc")) ∷ alone 1 (make o7) ++ alone 1 (put 1 path) ++ alone 1 clear ++ does (steps.Restore (targets.Commit 2)) ∷ []
+
+restored_file-records : map letter (all_writes first one_restore) ≡ codes "fCPCcfdEPCcAfdEPCcfdE"
+unfolding one_restore step settle_one writes
+restored_file-records = refl
+
+restored_file-cut_20 : cut one_restore 20 ≡ Some (light (stored (last_state first one_restore)))
+unfolding one_restore step settle_one writes
+restored_file-cut_20 = refl
+
+restored_file-cut_21 : cut one_restore 21 ≡ Some (light (stored (last_state first one_restore)))
+unfolding one_restore step settle_one writes
+restored_file-cut_21 = refl
+
+-- MERGING: the transaction drops a table, makes it anew and changes a second one, while another has changed a third one
+abbrev linked_row : ℕ → List ℕ → ℕ → ℕ → ℕ × Row
+linked_row n p t k = (n, record { values = values.Int (pos n) ∷ cell p t k ∷ [] })
+
+abbrev table : ℕ → ℕ → List (ℕ × Row) → Rows
+table v n rows = record { version = v; columns = columns o2; next = n; rows = rows }
+
+abbrev other_path : ℕ → List ℕ
+other_path n = 47 ∷ n ∷ []
+
+abbrev base : Tables
+base = (97 ∷ [], table 1 3 (linked_row 1 (other_path 1) 1 1 ∷ linked_row 2 (other_path 2) 1 2 ∷ [])) ∷ (98 ∷ [], table 2 3 (linked_row 1 (other_path 3) 2 1 ∷ linked_row 2 (other_path 4) 2 2 ∷ [])) ∷ (99 ∷ [], table 3 2 (linked_row 1 (other_path 5) 3 1 ∷ [])) ∷ []
+
+abbrev now : Tables
+now = (97 ∷ [], table 1 3 (linked_row 1 (other_path 1) 1 1 ∷ linked_row 2 (other_path 2) 1 2 ∷ [])) ∷ (98 ∷ [], table 2 3 (linked_row 1 (other_path 3) 2 1 ∷ linked_row 2 (other_path 4) 2 2 ∷ [])) ∷ (99 ∷ [], table 4 3 (linked_row 1 (other_path 5) 3 1 ∷ linked_row 2 (other_path 6) 4 1 ∷ [])) ∷ []
+
+abbrev copied : Tables
+copied = (98 ∷ [], table 2 4 (linked_row 2 (other_path 4) 2 2 ∷ linked_row 3 (other_path 7) 9 1 ∷ [])) ∷ (99 ∷ [], table 3 2 (linked_row 1 (other_path 5) 3 1 ∷ [])) ∷ (97 ∷ [], table 0 2 (linked_row 1 (other_path 2) 9 2 ∷ [])) ∷ []
+
+merged-record : with_table_changes 5 now (commit_changes base copied) ≡ Some (merge now base copied 5)
+merged-record = refl
+
+merged-gives : gives now (merge now base copied 5) ≡ gives base copied
+merged-gives = refl
+
+merged-takes : takes now (merge now base copied 5) ≡ takes base copied
+merged-takes = refl
+
+-- A RESTORE to tables of another order: the committed ones are `b` and then `a`, the target's `a` and then `b`
+abbrev reversed : Tables
+reversed = (98 ∷ [], table 5 3 []) ∷ (97 ∷ [], table 6 3 []) ∷ []
+
+abbrev target : Tables
+target = (97 ∷ [], table 1 2 (linked_row 1 (other_path 1) 1 1 ∷ [])) ∷ (98 ∷ [], table 2 2 (linked_row 1 (other_path 3) 2 1 ∷ [])) ∷ []
+
+-- its record leads to the tables of the restore
+restored-record : with_table_changes 7 reversed (restore_changes reversed target) ≡ Some (restored_tables reversed target 7)
+restored-record = refl
+
+-- THE TWO ORDERS OF ITS TAKES DIFFER: in the order of the target's links, and in that of the tables that the restore leaves
+abbrev tx_of : LinkRow → ℕ
+tx_of l = l.link.tx
+
+target-order : map tx_of (takes reversed target) ≡ 1 ∷ 2 ∷ []
+target-order = refl
+
+restored-order : map tx_of (takes reversed (restored_tables reversed target 7)) ≡ 2 ∷ 1 ∷ []
+restored-order = refl

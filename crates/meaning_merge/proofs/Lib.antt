@@ -1,0 +1,3 @@
+pub mod MergeLaws
+pub mod MovedLaws
+pub mod TableByTable

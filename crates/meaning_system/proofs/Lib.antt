@@ -1,0 +1,4 @@
+pub mod Cores
+pub mod Stepping
+pub mod Crashing
+pub mod Resolving

@@ -1,0 +1,9 @@
+pub mod Sql
+pub mod State
+pub mod Claims
+pub mod Commands
+pub mod Machine
+pub mod Writes
+pub mod CoreOf
+pub mod Full
+pub mod Recovering

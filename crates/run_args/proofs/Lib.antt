@@ -1,0 +1,10 @@
+mod Agree
+mod Forms
+mod Loose
+mod Rows
+mod Rules
+mod Run
+mod Settled
+mod Texts
+mod Turns
+mod Walking

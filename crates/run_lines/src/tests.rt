@@ -1,2 +1,0 @@
-mod expansion;
-mod lines;

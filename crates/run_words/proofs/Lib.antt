@@ -1,9 +1,0 @@
-mod Agree
-mod Forms
-mod Loose
-mod Rows
-mod Rules
-mod Settled
-mod Texts
-mod Turns
-mod Walking

@@ -1,5 +1,0 @@
-use Rattle.sql_fit.proofs.Whole.{kept_fitting}
-use Rattle.sql_fit.proofs.laws.changes_keep_tables_fitting.Goals as goal
-
-pub returns : goal.returns
-returns c tables stmt context k after fits free is = kept_fitting c.values_are_of_the_type.ensures tables stmt context k after fits free is

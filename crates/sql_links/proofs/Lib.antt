@@ -1,2 +1,0 @@
-mod Pairs
-pub mod RowLinks

@@ -1,6 +1,0 @@
-use Rattle.std.proofs.Common.{◌≡◌, ◌++◌, drop}
-use Rattle.meaning_tables.specs.Links.{row_links}
-use Rattle.sql_links.proofs.put_row_links.Given as goal
-
-abbrev pub invariant-loop-i : goal.invariant-loop-i
-invariant-loop-i l = l.made ++ row_links (drop l.i l.columns) (drop l.i l.row.values) ≡ l.fn.made ++ row_links l.columns l.row.values

@@ -1,0 +1,6 @@
+use Rattle.std.proofs.Common.{◌≡◌, ◌++◌, drop}
+use Rattle.meaning_tables.specs.Links.{row_links}
+use Rattle.sql_table.proofs.link_rows.put_row_links.Given as goal
+
+abbrev pub invariant-loop-i : goal.invariant-loop-i
+invariant-loop-i l = l.made ++ row_links (drop l.i l.columns) (drop l.i l.row.values) ≡ l.fn.made ++ row_links l.columns l.row.values

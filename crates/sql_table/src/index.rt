@@ -1,0 +1,121 @@
+// Indexes of rows: the marks of each row, which are its link numbers or its keys, with its number.
+ghost use Rattle.std.specs.Prelude.{◌≡◌, ◌++◌, IfOk, OnOk};
+ghost use Rattle.std.specs.List.Sorted.{IsStrictlySortedBy};
+ghost use Rattle.dl_pages.specs.Entries.{entry_order};
+ghost use Rattle.dl_pages.specs.Orders.{link_order};
+ghost use Rattle.meaning_tables.specs.Tables.{Rise};
+ghost use Rattle.sql_table.specs.Keys.{key_order, key_marks};
+ghost use Rattle.sql_table.specs.Marks.{WithMarks, WithoutMarks, IsIndex, cell_marks, link_marks};
+
+use crate::key::{Key, row_keys};
+use dl_base::{Column, Kind, LinkNo, List, Memory, Row, Value};
+use dl_pages::{Ordered, Pages, with_member, without_member};
+use std::alloc::Global;
+
+/// The index with marks under a number.
+pub(crate) fn with_marks<K: Ordered>(
+    alloc: Global,
+    index: &Pages<(K, u64)>,
+    marks: List<K>,
+    number: u64,
+) -> Result<Pages<(K, u64)>, Memory>
+    requires { IsStrictlySortedBy (entry_order K.order) index.now }
+    ensures { IfOk result (λ made. WithMarks K.order marks number index.now made) }
+{
+    let mut made = index.share()?;
+    for mark in marks.into_vec() {
+        made = with_member(alloc, &made, (mark, number))?;
+    }
+    Ok(made)
+}
+
+/// The index without marks under a number.
+pub(crate) fn without_marks<K: Ordered>(
+    alloc: Global,
+    index: &Pages<(K, u64)>,
+    marks: List<K>,
+    number: u64,
+) -> Result<Pages<(K, u64)>, Memory>
+    requires { IsStrictlySortedBy (entry_order K.order) index.now }
+    ensures { IfOk result (λ made. WithoutMarks K.order marks number index.now made) }
+{
+    let mut made = index.share()?;
+    for mark in marks.into_vec() {
+        made = without_member(alloc, &made, &(mark, number))?;
+    }
+    Ok(made)
+}
+
+/// The link numbers of a row.
+#[tactic(auto, using(crate::proofs::First::no_marks_past_the_end))]
+pub(crate) fn row_marks(columns: &List<Column>, row: &Row) -> Result<List<LinkNo>, Memory>
+    ensures { IfOk result (λ made. made ≡ link_marks columns.now row.now) }
+{
+    let mut made = List::empty(columns.allocator());
+    let values = row.values.as_slice();
+    for (i, column) in columns.as_slice().iter().enumerate() {
+        if values.len() <= i {
+            return Ok(made);
+        }
+        put_mark(&mut made, column.kind, &values[i])?;
+    }
+    Ok(made)
+}
+
+fn put_mark(made: &mut List<LinkNo>, kind: Kind, value: &Value) -> Result<(), Memory>
+    ensures { OnOk result (made.new ≡ made.old ++ cell_marks kind value.now) }
+{
+    match kind {
+        Kind::Linked(_) => match value {
+            Value::Link(datalink) => match datalink.link {
+                Some(link) => {
+                    made.push(link)?;
+                    Ok(())
+                }
+                None => Ok(()),
+            },
+            Value::Null => Ok(()),
+            Value::Int(_) => Ok(()),
+            Value::Text(_) => Ok(()),
+        },
+        Kind::Int => Ok(()),
+        Kind::Text(_) => Ok(()),
+        Kind::Free => Ok(()),
+    }
+}
+
+/// The index of the links of rows.
+pub(crate) fn link_index(
+    alloc: Global,
+    columns: &List<Column>,
+    next: u64,
+    rows: &Pages<(u64, Row)>,
+) -> Result<Pages<(LinkNo, u64)>, Memory>
+    requires { Rise 0 next rows.now }
+    ensures { IfOk result (λ made. IsIndex link_order (link_marks columns.now) rows.now made) }
+{
+    let mut made = Pages::empty();
+    for i in 0..rows.len() {
+        let item = rows.item(i);
+        made = with_marks(alloc, &made, row_marks(columns, &item.1)?, item.0)?;
+    }
+    Ok(made)
+}
+
+/// The index of the keys of rows.
+pub(crate) fn key_index(
+    alloc: Global,
+    columns: &List<Column>,
+    next: u64,
+    rows: &Pages<(u64, Row)>,
+) -> Result<Pages<(Key, u64)>, Memory>
+    requires { Rise 0 next rows.now }
+    ensures { IfOk result (λ made. IsIndex key_order (key_marks columns.now) rows.now made) }
+{
+    let mut made = Pages::empty();
+    for i in 0..rows.len() {
+        let item = rows.item(i);
+        made = with_marks(alloc, &made, row_keys(columns, &item.1)?, item.0)?;
+    }
+    Ok(made)
+}
