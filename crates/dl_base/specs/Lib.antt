@@ -7,3 +7,4 @@ pub mod Name
 pub mod Outside
 pub mod Path
 pub mod Sources
+pub mod Steps

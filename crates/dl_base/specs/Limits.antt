@@ -1,5 +1,5 @@
 -- The bounds of the system. What would pass one is refused, and changes nothing.
-use Rattle.std.specs.Prelude.{ℕ, ◌^◌}
+use Rattle.std.specs.Prelude.{ℕ, suc, ◌^◌}
 
 -- columns of a table
 abbrev pub most_columns : ℕ
@@ -28,6 +28,10 @@ most_combined_rows = 10000000
 -- links that one transaction draws
 abbrev pub most_links : ℕ
 most_links = 1000000
+
+-- the numbers of these links count from 1, and none passes most_links: the next one is at most this
+abbrev pub link_numbers : ℕ
+link_numbers = suc most_links
 
 -- files
 abbrev pub most_files : ℕ

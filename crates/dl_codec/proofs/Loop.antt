@@ -3,7 +3,8 @@ use Rattle.std.proofs.Common.{◌≡◌, ℕ, suc, ◌-◌, ◌+◌, ◌≤◌, 
 use Rattle.std.proofs.lemmas.List.{append-nil}
 use Rattle.dl_codec.specs.declared.read_fault.ReadFault.{ReadFault}
 use Rattle.dl_codec.specs.declared.read_fault.ReadFault.TheVariants.{Bad, Memory}
-use Rattle.dl_codec.specs.Layout.{◌>>=◌, Fails, times}
+use Rattle.dl_base.specs.Steps.{◌>>=◌}
+use Rattle.dl_codec.specs.Layout.{Fails, times}
 
 module _ {A : Type 0} (read : List ℕ → Option (A × List ℕ)) where
   -- what was read before, and what is still read

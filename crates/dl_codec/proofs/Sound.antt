@@ -10,7 +10,8 @@ use Rattle.std.proofs.Common.{rules}
 use Rattle.std.proofs.lemmas.Int.{ints, of_z-to_z, to_z-of_z}
 use Rattle.dl_base.specs.Path.{path_test}
 use Rattle.dl_base.specs.Name.{name_test}
-use Rattle.dl_codec.specs.Layout.{◌>>=◌, Layout, IsBytes, Takes, IsSound, number, u32, u64, i64, text, bool, only, path, name, behind, bare, ended, whole, Decodes, option, pair, along, times, list}
+use Rattle.dl_base.specs.Steps.{◌>>=◌}
+use Rattle.dl_codec.specs.Layout.{Layout, IsBytes, Takes, IsSound, number, u32, u64, i64, text, bool, only, path, name, behind, bare, ended, whole, Decodes, option, pair, along, times, list}
 
 -- ---- bytes
 

@@ -5,14 +5,9 @@ use Rattle.std.specs.List.{flat_map, AllByRecursion}
 use Rattle.std.specs.Int.{Width, w32, w64, byte_len, to_be_bytes, from_be_bytes, cast_unsigned, cast_signed}
 use Rattle.dl_base.specs.Path.{path_test}
 use Rattle.dl_base.specs.Name.{name_test}
+use Rattle.dl_base.specs.Steps.{◌>>=◌}
 use Rattle.dl_codec.specs.declared.read_fault.ReadFault.{ReadFault}
 use Rattle.dl_codec.specs.declared.read_fault.ReadFault.TheVariants.{Bad, Memory}
-
--- a step, and the next one if it gave something
-infixl 10 ◌>>=◌
-abbrev pub ◌>>=◌ : {A B : Type 0} → Option A → (A → Option B) → Option B
-(Some x) >>= f = f x
-None >>= f = None
 
 pub record Layout (A : Type 0) : Type 1 where
   -- the one spelling of a value

@@ -17,7 +17,8 @@ use Rattle.dl_base.specs.declared.value.LinkNo.{LinkNo}
 use Rattle.dl_base.specs.declared.value.LinkRow.{LinkRow}
 use Rattle.dl_base.specs.declared.value.Value.{Value}
 use Rattle.dl_base.specs.declared.value.Value.TheVariants as values
-use Rattle.dl_codec.specs.Layout.{Layout, ◌>>=◌, behind, bare, u32, u64, i64, bool, text, path, name, option, pair, along, list, only}
+use Rattle.dl_base.specs.Steps.{◌>>=◌}
+use Rattle.dl_codec.specs.Layout.{Layout, behind, bare, u32, u64, i64, bool, text, path, name, option, pair, along, list, only}
 use Rattle.meaning_tables.specs.OptionRows.{is_option_row}
 
 -- one byte for each case of an enumeration; a case that no byte stands for has no spelling

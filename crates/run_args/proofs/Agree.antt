@@ -10,7 +10,8 @@ use Rattle.clap.specs.Kinds.{Kinds, or_else}
 use Rattle.clap.specs.Simple.{built}
 use Rattle.clap.specs.Walk.{Row, finished, idle, nothing_held, walked}
 use Rattle.clap.proofs.FaultLemmas.{leaf_fault}
-use Rattle.run_args.specs.Words.{NamedText, ◌>>=◌, are_distinct, said_in, settings, settings_of, settled, text_in}
+use Rattle.dl_base.specs.Steps.{◌>>=◌}
+use Rattle.run_args.specs.Words.{NamedText, are_distinct, said_in, settings, settings_of, settled, text_in}
 use Rattle.run_args.specs.Command.{command, found, is_taken, settings_in, taken_settings}
 use Rattle.run_args.proofs.Forms.{formed, is_formed, said_is}
 use Rattle.run_args.proofs.Loose.{loose, ready}

@@ -5,7 +5,8 @@ use Rattle.std.specs.List.{list_all}
 use Rattle.std.specs.Str.{is_utf8}
 use Rattle.std.proofs.lemmas.Bool.{or_parts, false≢true}
 use Rattle.std.proofs.lemmas.Slice.Eq.{bytes_eq-Decides}
-use Rattle.run_args.specs.Words.{NamedText, ◌>>=◌, is_option, is_form, behind_hyphens, name_of, text_of, with, commands, by_text, by_name, said_in, are_distinct, text_in, settled, settings, names_run}
+use Rattle.dl_base.specs.Steps.{◌>>=◌}
+use Rattle.run_args.specs.Words.{NamedText, is_option, is_form, behind_hyphens, name_of, text_of, with, commands, by_text, by_name, said_in, are_distinct, text_in, settled, settings, names_run}
 use Rattle.run_args.proofs.Rules.{the_command, either_way}
 use Rattle.run_args.proofs.Settled.{IsNone, bound}
 

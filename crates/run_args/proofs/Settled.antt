@@ -7,7 +7,8 @@ use Rattle.std.proofs.lemmas.Slice.Eq.{bytes_eq-Decides}
 use Rattle.dl_base.specs.declared.step.Settings.{Settings}
 use Rattle.clap.specs.Walk.{first_of}
 use Rattle.dl_base.specs.Digits.{number_in}
-use Rattle.run_args.specs.Words.{NamedText, ◌>>=◌, is_server, server_in, key_in, is_form, has, are_distinct, text_in, settings_of, no_key}
+use Rattle.dl_base.specs.Steps.{◌>>=◌}
+use Rattle.run_args.specs.Words.{NamedText, is_server, server_in, key_in, is_form, has, are_distinct, text_in, settings_of, no_key}
 use Rattle.run_args.proofs.Forms.{is_formed}
 use Rattle.run_args.proofs.Rules.{row, the_command, text_itself, either_way}
 

@@ -8,13 +8,9 @@ use Rattle.hex.specs.Hex.{decode_of}
 use Rattle.dl_base.specs.Name.{name_test}
 use Rattle.dl_base.specs.declared.step.Settings.{Settings}
 use Rattle.dl_base.specs.Digits.{number_in}
+use Rattle.dl_base.specs.Steps.{◌>>=◌}
 use Rattle.run_args.specs.declared.fault.WordsFault.{WordsFault}
 use Rattle.run_args.specs.declared.fault.WordsFault.TheVariants.{Usage, Memory}
-
-infixl 10 ◌>>=◌
-abbrev pub ◌>>=◌ : {A B : Type 0} → Option A → (A → Option B) → Option B
-None >>= next = None
-(Some a) >>= next = next a
 
 -- ---- values
 

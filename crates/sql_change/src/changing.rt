@@ -1,7 +1,7 @@
 // A statement as a whole: the new table is built beside the old one, and put in its place as the last step, which takes no
 // memory.
 ghost use Rattle.std.specs.Prelude.{◌≡◌, ◌≢◌, ◌≤◌, IfOk, IfErr, OnErr, OnOk, Ok, Err, ℕ, suc};
-ghost use Rattle.dl_base.specs.Limits.{most_links};
+ghost use Rattle.dl_base.specs.Limits.{link_numbers};
 ghost use Rattle.dl_base.specs.declared.sql_fault.SqlFault.TheVariants as faults;
 ghost use Rattle.meaning_sql.specs.Faults.{Computes};
 ghost use Rattle.meaning_statements.specs.Changing as meant;
@@ -36,11 +36,11 @@ pub fn change(
     context: &Context,
     next_link: &mut u32,
 ) -> Result<u64, SqlFault>
-    requires { next_link.old ≤ suc most_links }
+    requires { next_link.old ≤ link_numbers }
     ensures ok { IfOk result (λ count. meant.change tables.old stmt.now context.entry.now next_link.old ≡ Ok (record { tables = tables.new; next = next_link.new; count = count })) }
     ensures refused { IfErr result (λ e. e ≢ faults.Memory → meant.change tables.old stmt.now context.entry.now next_link.old ≡ Err e) }
     ensures unchanged { OnErr result ((tables.new ≡ tables.old) × (next_link.new ≡ next_link.old)) }
-    ensures few { next_link.new ≤ suc most_links }
+    ensures few { next_link.new ≤ link_numbers }
 {
     match stmt {
         Stmt::CreateTable(name, columns) => {
@@ -131,11 +131,11 @@ fn insert(
     context: &Context,
     next_link: &mut u32,
 ) -> Result<u64, SqlFault>
-    requires { next_link.old ≤ suc most_links }
+    requires { next_link.old ≤ link_numbers }
     ensures ok { IfOk result (λ count. meant.insert tables.old name.now names.now tuples.now context.entry.now next_link.old ≡ Ok (record { tables = tables.new; next = next_link.new; count = count })) }
     ensures refused { IfErr result (λ e. e ≢ faults.Memory → meant.insert tables.old name.now names.now tuples.now context.entry.now next_link.old ≡ Err e) }
     ensures unchanged { OnErr result ((tables.new ≡ tables.old) × (next_link.new ≡ next_link.old)) }
-    ensures few { next_link.new ≤ suc most_links }
+    ensures few { next_link.new ≤ link_numbers }
 {
     let made = inserted(
         alloc,
@@ -158,11 +158,11 @@ fn update(
     context: &Context,
     next_link: &mut u32,
 ) -> Result<u64, SqlFault>
-    requires { next_link.old ≤ suc most_links }
+    requires { next_link.old ≤ link_numbers }
     ensures ok { IfOk result (λ count. meant.update tables.old name.now sets.now filter.now context.entry.now next_link.old ≡ Ok (record { tables = tables.new; next = next_link.new; count = count })) }
     ensures refused { IfErr result (λ e. e ≢ faults.Memory → meant.update tables.old name.now sets.now filter.now context.entry.now next_link.old ≡ Err e) }
     ensures unchanged { OnErr result ((tables.new ≡ tables.old) × (next_link.new ≡ next_link.old)) }
-    ensures few { next_link.new ≤ suc most_links }
+    ensures few { next_link.new ≤ link_numbers }
 {
     let made = updated(
         alloc,
@@ -185,11 +185,11 @@ fn delete(
     context: &Context,
     next_link: &mut u32,
 ) -> Result<u64, SqlFault>
-    requires { next_link.old ≤ suc most_links }
+    requires { next_link.old ≤ link_numbers }
     ensures ok { IfOk result (λ count. meant.delete tables.old name.now filter.now context.entry.now next_link.old ≡ Ok (record { tables = tables.new; next = next_link.new; count = count })) }
     ensures refused { IfErr result (λ e. e ≢ faults.Memory → meant.delete tables.old name.now filter.now context.entry.now next_link.old ≡ Err e) }
     ensures unchanged { OnErr result ((tables.new ≡ tables.old) × (next_link.new ≡ next_link.old)) }
-    ensures few { next_link.new ≤ suc most_links }
+    ensures few { next_link.new ≤ link_numbers }
 {
     let made = deleted(
         alloc,

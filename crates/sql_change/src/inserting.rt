@@ -1,6 +1,6 @@
 // INSERT: the rows of its tuples, and the table with them.
 ghost use Rattle.std.specs.Prelude.{◌≡◌, ◌+◌, ◌≤◌, IfOk, IfErr, length, suc};
-ghost use Rattle.dl_base.specs.Limits.{most_links, most_rows, row_numbers};
+ghost use Rattle.dl_base.specs.Limits.{link_numbers, most_rows, row_numbers};
 ghost use Rattle.dl_base.specs.declared.sql_fault.SqlFault.TheVariants as faults;
 ghost use Rattle.meaning_sql.specs.Faults.{Computes};
 ghost use Rattle.meaning_statements.specs.Changing as meant;
@@ -27,9 +27,9 @@ pub(crate) fn inserted(
     context: &Context,
     k: u32,
 ) -> Result<Outcome, SqlFault>
-    requires { k ≤ suc most_links }
+    requires { k ≤ link_numbers }
     ensures made { Computes (λ m. (m.table, (m.next, m.count))) result (parts.inserted table.now names.now tuples.now context.entry.now k) }
-    ensures few { IfOk result (λ m. m.next ≤ suc most_links) }
+    ensures few { IfOk result (λ m. m.next ≤ link_numbers) }
 {
     let seen: Columns = List::empty(alloc);
     let at = Row {
@@ -51,9 +51,9 @@ fn put_in(
     context: &Context,
     k: u32,
 ) -> Result<Outcome, SqlFault>
-    requires { k ≤ suc most_links }
+    requires { k ≤ link_numbers }
     ensures made { Computes (λ m. (m.table, (m.next, m.count))) result (parts.put_in seen.now at.now table.now places.now tuples.now context.entry.now k) }
-    ensures few { IfOk result (λ m. m.next ≤ suc most_links) }
+    ensures few { IfOk result (λ m. m.next ≤ link_numbers) }
 {
     check_lengths(tuples, places)?;
     typed_in(alloc, seen, at, table, places, tuples, context, k)
@@ -71,9 +71,9 @@ fn typed_in(
     context: &Context,
     k: u32,
 ) -> Result<Outcome, SqlFault>
-    requires { k ≤ suc most_links }
+    requires { k ≤ link_numbers }
     ensures made { Computes (λ m. (m.table, (m.next, m.count))) result (parts.typed_in seen.now at.now table.now places.now tuples.now context.entry.now k) }
-    ensures few { IfOk result (λ m. m.next ≤ suc most_links) }
+    ensures few { IfOk result (λ m. m.next ≤ link_numbers) }
 {
     let types = tuple_types(alloc, tuples, seen)?;
     check_all_types(table.columns(), places, &types)?;
@@ -92,9 +92,9 @@ fn filled(
     context: &Context,
     k: u32,
 ) -> Result<Outcome, SqlFault>
-    requires { k ≤ suc most_links }
+    requires { k ≤ link_numbers }
     ensures made { Computes (λ m. (m.table, (m.next, m.count))) result (parts.filled seen.now at.now table.now places.now tuples.now context.entry.now k) }
-    ensures few { IfOk result (λ m. m.next ≤ suc most_links) }
+    ensures few { IfOk result (λ m. m.next ≤ link_numbers) }
 {
     let made = new_rows(alloc, seen, at, table, places, tuples, context, k)?;
     grown(alloc, table, made)
@@ -112,9 +112,9 @@ fn new_rows(
     context: &Context,
     k: u32,
 ) -> Result<NewRows, SqlFault>
-    requires { k ≤ suc most_links }
+    requires { k ≤ link_numbers }
     ensures put { Computes (λ p. (counted table.now.next p.rows, p.next)) result (meant.inserted_rows context.entry.now seen.now at.now table.now.columns places.now table.now.next k tuples.now) }
-    ensures few { IfOk result (λ p. p.next ≤ suc most_links) }
+    ensures few { IfOk result (λ p. p.next ≤ link_numbers) }
     ensures one_each { IfOk result (λ p. length p.rows ≡ length tuples.now) }
 {
     let made = tuple_rows(alloc, context, seen, at, table.columns(), places, k, tuples)?;

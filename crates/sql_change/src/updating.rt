@@ -1,6 +1,6 @@
 // UPDATE and DELETE: the rows of a table after them.
 ghost use Rattle.std.specs.Prelude.{◌≡◌, ◌≤◌, IfOk, IfErr, suc};
-ghost use Rattle.dl_base.specs.Limits.{most_links};
+ghost use Rattle.dl_base.specs.Limits.{link_numbers};
 ghost use Rattle.dl_base.specs.declared.sql_fault.SqlFault.TheVariants as faults;
 ghost use Rattle.meaning_sql.specs.Faults.{Computes};
 ghost use Rattle.meaning_statements.specs.Sources as sources_meant;
@@ -27,9 +27,9 @@ pub(crate) fn updated(
     context: &Context,
     k: u32,
 ) -> Result<Outcome, SqlFault>
-    requires { k ≤ suc most_links }
+    requires { k ≤ link_numbers }
     ensures made { Computes (λ m. (m.table, (m.next, m.count))) result (parts.updated name.now table.now sets.now filter.now context.entry.now k) }
-    ensures few { IfOk result (λ m. m.next ≤ suc most_links) }
+    ensures few { IfOk result (λ m. m.next ≤ link_numbers) }
 {
     let names = set_names(alloc, sets)?;
     let places = set_places(alloc, table.columns(), &names)?;
@@ -47,9 +47,9 @@ fn set_under(
     context: &Context,
     k: u32,
 ) -> Result<Outcome, SqlFault>
-    requires { k ≤ suc most_links }
+    requires { k ≤ link_numbers }
     ensures made { Computes (λ m. (m.table, (m.next, m.count))) result (parts.set_at (sources_meant.own_columns name.now table.now) table.now places.now sets.now filter.now context.entry.now k) }
-    ensures few { IfOk result (λ m. m.next ≤ suc most_links) }
+    ensures few { IfOk result (λ m. m.next ≤ link_numbers) }
 {
     let columns = own_columns(alloc, name, table.columns())?;
     set_at(alloc, &columns, table, places, sets, filter, context, k)
@@ -66,9 +66,9 @@ fn set_at(
     context: &Context,
     k: u32,
 ) -> Result<Outcome, SqlFault>
-    requires { k ≤ suc most_links }
+    requires { k ≤ link_numbers }
     ensures made { Computes (λ m. (m.table, (m.next, m.count))) result (parts.set_at columns.now table.now places.now sets.now filter.now context.entry.now k) }
-    ensures few { IfOk result (λ m. m.next ≤ suc most_links) }
+    ensures few { IfOk result (λ m. m.next ≤ link_numbers) }
 {
     let types = types_of_sets(alloc, sets, columns)?;
     filter_type(columns, filter)?;
@@ -88,9 +88,9 @@ fn set_rows(
     context: &Context,
     k: u32,
 ) -> Result<Outcome, SqlFault>
-    requires { k ≤ suc most_links }
+    requires { k ≤ link_numbers }
     ensures made { Computes (λ m. (m.table, (m.next, m.count))) result (parts.set_rows columns.now table.now places.now sets.now filter.now context.entry.now k) }
-    ensures few { IfOk result (λ m. m.next ≤ suc most_links) }
+    ensures few { IfOk result (λ m. m.next ≤ link_numbers) }
 {
     let made = updated_rows(alloc, table, columns, context, filter, places, sets, k)?;
     replaced(alloc, table, made)
@@ -130,9 +130,9 @@ pub(crate) fn deleted(
     context: &Context,
     k: u32,
 ) -> Result<Outcome, SqlFault>
-    requires { k ≤ suc most_links }
+    requires { k ≤ link_numbers }
     ensures made { Computes (λ m. (m.table, (m.next, m.count))) result (parts.deleted name.now table.now filter.now context.entry.now k) }
-    ensures few { IfOk result (λ m. m.next ≤ suc most_links) }
+    ensures few { IfOk result (λ m. m.next ≤ link_numbers) }
 {
     let columns = own_columns(alloc, name, table.columns())?;
     left_over(alloc, &columns, table, filter, context, k)
@@ -147,9 +147,9 @@ fn left_over(
     context: &Context,
     k: u32,
 ) -> Result<Outcome, SqlFault>
-    requires { k ≤ suc most_links }
+    requires { k ≤ link_numbers }
     ensures made { Computes (λ m. (m.table, (m.next, m.count))) result (parts.left_over columns.now table.now filter.now context.entry.now k) }
-    ensures few { IfOk result (λ m. m.next ≤ suc most_links) }
+    ensures few { IfOk result (λ m. m.next ≤ link_numbers) }
 {
     filter_type(columns, filter)?;
     let rows = remaining(alloc, table, columns, context, filter)?;

@@ -1,6 +1,6 @@
 // What is put into the cells of a row.
 ghost use Rattle.std.specs.Prelude.{◌≡◌, ◌≤◌, IfOk, Ok, length, suc};
-ghost use Rattle.dl_base.specs.Limits.{most_links};
+ghost use Rattle.dl_base.specs.Limits.{link_numbers};
 ghost use Rattle.meaning_sql.specs.Faults.{Computes};
 ghost use Rattle.meaning_sql.specs.Values as values_meant;
 ghost use Rattle.meaning_statements.specs.Assigning as meant;
@@ -35,9 +35,9 @@ pub(crate) fn stored_row(
     old: &Row,
     new: &Row,
 ) -> Result<PutRow, SqlFault>
-    requires { first ≤ suc most_links }
+    requires { first ≤ link_numbers }
     ensures put { Computes (λ p. (p.values, p.next)) result (meant.stored_row tx first 0 columns.now old.now new.now) }
-    ensures few { IfOk result (λ p. p.next ≤ suc most_links) }
+    ensures few { IfOk result (λ p. p.next ≤ link_numbers) }
 {
     let mut values = List::empty(alloc);
     let mut k = first;
@@ -57,9 +57,9 @@ fn stored_at(
     old: &Row,
     new: &Row,
 ) -> Result<Put, SqlFault>
-    requires { k ≤ suc most_links }
+    requires { k ≤ link_numbers }
     ensures put { Computes (λ p. (p.value, p.next)) result (meant.stored tx k column.now (values_meant.cell old.now place) (values_meant.cell new.now place)) }
-    ensures few { IfOk result (λ p. p.next ≤ suc most_links) }
+    ensures few { IfOk result (λ p. p.next ≤ link_numbers) }
 {
     let before = cell(old, place)?;
     let value = cell(new, place)?;
@@ -68,9 +68,9 @@ fn stored_at(
 
 #[tactic(auto, unfolding(meaning_statements::specs::Assigning::stored))]
 fn stored(tx: u64, k: u32, column: &Column, old: &Value, new: Value) -> Result<Put, SqlFault>
-    requires { k ≤ suc most_links }
+    requires { k ≤ link_numbers }
     ensures put { Computes (λ p. (p.value, p.next)) result (meant.stored tx k column.now old.now new) }
-    ensures few { IfOk result (λ p. p.next ≤ suc most_links) }
+    ensures few { IfOk result (λ p. p.next ≤ link_numbers) }
 {
     match new {
         Value::Null => {
@@ -122,9 +122,9 @@ fn is_within(kind: Kind, len: usize) -> bool
 }
 
 fn stored_link(tx: u64, k: u32, kind: Kind, old: &Value, link: Dl) -> Result<Put, SqlFault>
-    requires { k ≤ suc most_links }
+    requires { k ≤ link_numbers }
     ensures put { Computes (λ p. (p.value, p.next)) result (meant.stored_link tx k kind old.now link) }
-    ensures few { IfOk result (λ p. p.next ≤ suc most_links) }
+    ensures few { IfOk result (λ p. p.next ≤ link_numbers) }
 {
     match kind {
         Kind::Linked(_) => {
@@ -142,9 +142,9 @@ fn stored_link(tx: u64, k: u32, kind: Kind, old: &Value, link: Dl) -> Result<Put
 
 // The datalink under the number that the cell keeps, else under the transaction's next one.
 fn numbered(tx: u64, k: u32, link: Dl, own: Option<LinkNo>) -> Result<Put, SqlFault>
-    requires { k ≤ suc most_links }
+    requires { k ≤ link_numbers }
     ensures put { Computes (λ p. (p.value, p.next)) result (meant.numbered tx k link own) }
-    ensures few { IfOk result (λ p. p.next ≤ suc most_links) }
+    ensures few { IfOk result (λ p. p.next ≤ link_numbers) }
 {
     if own.is_some() {
         return Ok(Put {

@@ -1,6 +1,6 @@
 // The rows that INSERT puts in, that UPDATE makes, and that DELETE leaves.
 ghost use Rattle.std.specs.Prelude.{◌≡◌, ◌++◌, ◌∷◌, OnOk, ◌+◌, ◌<◌, ◌≤◌, ◌^◌, IfOk, Ok, [], length, map, if◌then◌else◌, suc};
-ghost use Rattle.dl_base.specs.Limits.{most_links};
+ghost use Rattle.dl_base.specs.Limits.{link_numbers};
 ghost use Rattle.meaning_sql.specs.Faults.{Computes, try_map, option_list};
 ghost use Rattle.meaning_sql.specs.Values.{meaning};
 ghost use Rattle.meaning_statements.specs.Changing as meant;
@@ -88,9 +88,9 @@ fn inserted_row(
     k: u32,
     tuple: &List<Expr>,
 ) -> Result<PutRow, SqlFault>
-    requires { k ≤ suc most_links }
+    requires { k ≤ link_numbers }
     ensures put { Computes (λ p. (p.values, p.next)) result (meant.inserted_row context.entry.now seen.now at.now columns.now places.now k tuple.now) }
-    ensures few { IfOk result (λ p. p.next ≤ suc most_links) }
+    ensures few { IfOk result (λ p. p.next ≤ link_numbers) }
 {
     let values = evaluated(alloc, tuple, at, seen, context)?;
     let values = arranged(alloc, columns, places, &Row { values })?;
@@ -112,9 +112,9 @@ pub fn tuple_rows(
     first: u32,
     tuples: &List<List<Expr>>,
 ) -> Result<NewRows, SqlFault>
-    requires { first ≤ suc most_links }
+    requires { first ≤ link_numbers }
     ensures put { Computes (λ p. (p.rows, p.next)) result (tuple_rows context.entry.now seen.now at.now columns.now places.now first tuples.now) }
-    ensures few { IfOk result (λ p. p.next ≤ suc most_links) }
+    ensures few { IfOk result (λ p. p.next ≤ link_numbers) }
     ensures one_each { IfOk result (λ p. length p.rows ≡ length tuples.now) }
 {
     let mut rows = List::empty(alloc);
@@ -248,9 +248,9 @@ fn updated_row(
     k: u32,
     row: &Row,
 ) -> Result<PutRow, SqlFault>
-    requires { k ≤ suc most_links }
+    requires { k ≤ link_numbers }
     ensures put { Computes (λ p. (p.values, p.next)) result (meant.updated_row all.now context.entry.now columns.now places.now (map (λ s. s.1) sets.now) k row.now) }
-    ensures few { IfOk result (λ p. p.next ≤ suc most_links) }
+    ensures few { IfOk result (λ p. p.next ≤ link_numbers) }
 {
     let values = set_values(alloc, sets, row, all, context)?;
     let values = with_cells(alloc, places, &Row { values }, row)?;
@@ -269,9 +269,9 @@ fn row_after(
     k: u32,
     row: &Row,
 ) -> Result<PutRow, SqlFault>
-    requires { k ≤ suc most_links }
+    requires { k ≤ link_numbers }
     ensures put { Computes (λ p. (p.values, p.next)) result (if met then meant.updated_row all.now context.entry.now columns.now places.now (map (λ s. s.1) sets.now) k row.now else Ok (row.now.values, k)) }
-    ensures few { IfOk result (λ p. p.next ≤ suc most_links) }
+    ensures few { IfOk result (λ p. p.next ≤ link_numbers) }
 {
     if met {
         updated_row(alloc, all, context, columns, places, sets, k, row)
@@ -296,9 +296,9 @@ pub fn updated_rows(
     sets: &List<(Name, Expr)>,
     first: u32,
 ) -> Result<Updated, SqlFault>
-    requires { first ≤ suc most_links }
+    requires { first ≤ link_numbers }
     ensures put { Computes (λ u. (u.rows, (u.next, u.met))) result (meant.updated_rows all.now context.entry.now table.now.columns (option_list filter.now) places.now (map (λ s. s.1) sets.now) first table.now.rows) }
-    ensures few { IfOk result (λ u. u.next ≤ suc most_links) }
+    ensures few { IfOk result (λ u. u.next ≤ link_numbers) }
     ensures rise { IfOk result (λ u. Rise 0 table.now.next u.rows) }
 {
     let mut rows = List::empty(alloc);

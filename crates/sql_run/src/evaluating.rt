@@ -1,6 +1,6 @@
 // A statement of any kind, and what it answers.
 ghost use Rattle.std.specs.Prelude.{◌≡◌, ◌≢◌, ◌≤◌, IfOk, OnErr, Err, suc};
-ghost use Rattle.dl_base.specs.Limits.{most_links};
+ghost use Rattle.dl_base.specs.Limits.{link_numbers};
 ghost use Rattle.dl_base.specs.declared.sql_fault.SqlFault.TheVariants as faults;
 ghost use Rattle.sql_run.specs.declared.evaluating.Outcome.TheVariants as outcomes;
 ghost use Rattle.sql_run.specs.Outcomes.{Evaluated, evaluated, answer_of, counted, done, rows_answered};
@@ -48,11 +48,11 @@ pub fn evaluate(
     context: &Context,
     next_link: &mut u32,
 ) -> Result<Outcome, Memory>
-    requires { next_link.old ≤ suc most_links }
+    requires { next_link.old ≤ link_numbers }
     ensures exact { IfOk result (λ outcome. evaluated tables.old stmt.now context.entry.now next_link.old ≡ record { outcome = outcome; tables = tables.new; next = next_link.new }) }
     ensures memory { IfOk result (λ outcome. outcome ≢ outcomes.Refused faults.Memory) }
     ensures unchanged { OnErr result ((tables.new ≡ tables.old) × (next_link.new ≡ next_link.old)) }
-    ensures few { next_link.new ≤ suc most_links }
+    ensures few { next_link.new ≤ link_numbers }
 {
     match stmt {
         Stmt::Select(query) => rows_answered(select(alloc, tables, query, context)),
