@@ -1,20 +1,24 @@
 #!/usr/bin/env python3
-"""Processor time of statements of SQL over tables in memory, and the ratio of twice the size to once.
+"""Processor time of statements of SQL over tables in memory, beside SQLite in memory on the same statements in the same run.
 
-What is timed is the built program of `crates/sql_shell`, which reads statements, a line each, and tells their answers: INSERTs of
-one row each into a table with a key, UPDATEs by key over a table of a tenth as many rows, SELECTs with WHERE, a join by an equality
-of a tenth as many rows with 1,000, ORDER BY and GROUP BY. Of each the time is that of a run with the statements that are measured,
-less that of a run with those alone that come before them. It is the best of three runs, or of one where it takes more than five
-seconds, all in this one invocation. An answer that is not the right one ends the script.
+What is timed is the built program of `crates/sql_shell`, which reads statements, a line each, and tells their answers. Of each kind
+the time is that of a run with the statements that are measured, less that of a run with those alone that come before them: the best
+of three runs, or of one where it takes more than five seconds. An answer that is not the right one ends the script. SQLite is the one
+that Python brings along; its time is that of handing it the same statements one by one and taking their rows.
 
-A number as argument is the size, in place of 10,000. An INSERT and an UPDATE go over their whole table once, so that twice as many,
-over twice the rows, take four times the time; what takes more goes over it more than once.
+Printed are: INSERTs of a row each into a table with a key, 10,000 and 20,000 of them; UPDATE, DELETE and SELECT by key over 1,000 and
+over 100,000 rows, a statement; joins by a key; a join of three tables of 200 rows; a COUNT over 10,000,000 combined rows, with its
+peak of memory; SELECTs that look at all rows, ORDER BY and GROUP BY; and how many bytes a row takes.
+
+With a word, only the kinds whose name has it are measured.
 """
+import os
 import pathlib
-import resource
+import sqlite3
 import subprocess
 import sys
 import tempfile
+import time
 
 ROOT = pathlib.Path(__file__).resolve().parent.parent
 FOLDER = ROOT / "crates" / "sql_shell"
@@ -31,96 +35,175 @@ def tuple_of(i):
 
 
 def table(name, rows):
-    """The statements that make a table of so many rows, many rows a statement, and their answers."""
-    made, told = [CREATE % name], ["ok"]
+    """The statements that make a table of so many rows, many rows a statement, each with its answer."""
+    made = [(CREATE % name, "ok")]
     for first in range(0, rows, TUPLES):
         last = min(first + TUPLES, rows)
-        made.append("INSERT INTO %s VALUES %s" % (name, ", ".join(tuple_of(i) for i in range(first, last))))
-        told.append("ok %d" % (last - first))
-    return made, told
+        tuples = ", ".join(tuple_of(i) for i in range(first, last))
+        made.append(("INSERT INTO %s VALUES %s" % (name, tuples), "ok %d" % (last - first)))
+    return made
 
 
-def inserts(size):
-    return [CREATE % "t"], ["ok"], ["INSERT INTO t VALUES " + tuple_of(i) for i in range(size)], ["ok 1"] * size
+def inserts(count):
+    return [(CREATE % "t", "ok")], [("INSERT INTO t VALUES " + tuple_of(i), "ok 1") for i in range(count)]
 
 
-def updates(size):
-    """UPDATEs over a table of a tenth of the size."""
-    rows = size // 10
-    before, told = table("t", rows)
-    return before, told, ["UPDATE t SET v = v + 1 WHERE id = %d" % (i * 7919 % rows) for i in range(size)], ["ok 1"] * size
+def by_key(statement, answer, rows, count):
+    """A statement for each of some keys, far apart and none twice."""
+    keys = [i * 7919 % rows for i in range(count)]
+    return table("t", rows), [(statement % key, answer) for key in keys]
 
 
-def filters(size):
-    before, told = table("t", size)
-    return before, told, ["SELECT COUNT(*) FROM t WHERE v >= 0 AND s <> 'text'"] * 20, ["rows 1"] * 20
+def updates(rows):
+    return by_key("UPDATE t SET v = v + 1 WHERE id = %d", "ok 1", rows, 500)
 
 
-def joins(size):
-    """A join of a tenth of the size by a thousand rows."""
-    before, told = table("a", size // 10)
-    more, also = table("b", 1_000)
-    found = min(size // 10, 1_000)
-    return before + more, told + also, ["SELECT a.id, b.v FROM a JOIN b ON a.id = b.id"], ["rows %d" % found]
+def deletes(rows):
+    return by_key("DELETE FROM t WHERE id = %d", "ok 1", rows, 500)
 
 
-def orders(size):
-    before, told = table("t", size)
-    return before, told, ["SELECT id, v FROM t ORDER BY v, id DESC"], ["rows %d" % size]
+def selects(rows):
+    return by_key("SELECT v, s FROM t WHERE id = %d", "rows 1", rows, 500)
 
 
-def groups(size):
-    before, told = table("t", size)
-    return before, told, ["SELECT s, COUNT(*), SUM(v) FROM t GROUP BY s"], ["rows %d" % min(size, 100)]
+def join(rows, others):
+    """By the key of the second table."""
+    return table("a", rows) + table("b", others), [("SELECT a.id, b.v FROM a JOIN b ON a.id = b.id", "rows %d" % min(rows, others))]
 
 
-KINDS = {
-    "INSERTs of a row": inserts,
-    "UPDATEs by key over a tenth as many rows": updates,
-    "20 SELECTs with WHERE": filters,
-    "a join of a tenth as many rows with 1,000": joins,
-    "ORDER BY": orders,
-    "GROUP BY": groups,
-}
+def three(rows):
+    made = table("a", rows) + table("b", rows) + table("c", rows)
+    return made, [("SELECT a.id, b.v, c.s FROM a JOIN b ON a.id = b.id JOIN c ON b.id = c.id", "rows %d" % rows)]
 
 
-def spent():
-    """The processor time of all programs that were run and have ended."""
-    usage = resource.getrusage(resource.RUSAGE_CHILDREN)
-    return usage.ru_utime + usage.ru_stime
+def three_by_other_columns(rows):
+    made = table("a", rows) + table("b", rows) + table("c", rows)
+    return made, [("SELECT COUNT(*) FROM a JOIN b ON a.v = b.v JOIN c ON b.v = c.v", "rows 1")]
 
 
-def seconds(statements, answers):
-    """The best time of some runs of these statements; their answers are looked at."""
-    given = "".join(line + "\n" for line in statements).encode()
-    times = []
+def counted(rows, others):
+    return table("a", rows) + table("b", others), [("SELECT COUNT(*) FROM a, b", "rows 1")]
+
+
+def filters(rows):
+    return table("t", rows), [("SELECT COUNT(*) FROM t WHERE v >= 0 AND s <> 'text'", "rows 1")] * 20
+
+
+def orders(rows):
+    return table("t", rows), [("SELECT id, v FROM t ORDER BY v, id DESC", "rows %d" % rows)]
+
+
+def groups(rows):
+    return table("t", rows), [("SELECT s, COUNT(*), SUM(v) FROM t GROUP BY s", "rows %d" % min(rows, 100))]
+
+
+def ours(statements):
+    """The best processor time of some runs of these statements, in seconds, and the peak of memory, in bytes."""
+    given = "".join(text + "\n" for text, _ in statements).encode()
+    wanted = ["%d: %s" % (i + 1, answer) for i, (_, answer) in enumerate(statements)]
+    times, peak = [], 0
     while len(times) < RUNS and sum(times) < ENOUGH:
         with tempfile.TemporaryFile() as source, tempfile.TemporaryFile() as told:
             source.write(given)
             source.seek(0)
-            start = spent()
-            run = subprocess.run([str(PROGRAM)], stdin=source, stdout=told, check=False)
-            times.append(spent() - start)
+            run = subprocess.Popen([str(PROGRAM)], stdin=source, stdout=told)
+            _, status, usage = os.wait4(run.pid, 0)
+            run.returncode = os.waitstatus_to_exitcode(status)
+            times.append(usage.ru_utime + usage.ru_stime)
+            peak = max(peak, usage.ru_maxrss * 1024)
             told.seek(0)
             lines = told.read().decode().splitlines()
         heads = [line for line in lines if line.partition(":")[0].isdigit()]
-        if run.returncode != 0 or heads != ["%d: %s" % (i + 1, answer) for i, answer in enumerate(answers)]:
+        if run.returncode != 0 or heads != wanted:
             sys.exit("the program ended with status %d, or another answer was told" % run.returncode)
+    return min(times), peak
+
+
+def of_sqlite(before, statements):
+    """The processor time in which SQLite takes the statements, in seconds."""
+    times = []
+    while len(times) < RUNS and sum(times) < ENOUGH:
+        base = sqlite3.connect(":memory:", isolation_level=None)
+        for text, _ in before:
+            base.execute(text)
+        start = time.process_time()
+        for text, _ in statements:
+            base.execute(text).fetchall()
+        times.append(time.process_time() - start)
+        base.close()
     return min(times)
 
 
-def measured(kind, size):
-    before, told, statements, answers = KINDS[kind](size)
-    return max(seconds(before + statements, told + answers) - seconds(before, told), 0.0001)
+def measured(before, statements):
+    """The processor times of the statements here and in SQLite, in seconds, and the peak of memory here, in bytes."""
+    whole, peak = ours(before + statements)
+    alone, _ = ours(before)
+    return max(whole - alone, 0.0001), max(of_sqlite(before, statements), 0.0001), peak
+
+
+def line(name, took, sqlite):
+    print("%s: %.4f s, SQLite %.4f s, %.2f times SQLite's time" % (name, took, sqlite, took / sqlite), flush=True)
+
+
+def twice(name, make, size):
+    once, sqlite, _ = measured(*make(size))
+    line("%d %s" % (size, name), once, sqlite)
+    double, sqlite, _ = measured(*make(2 * size))
+    line("%d %s" % (2 * size, name), double, sqlite)
+    print("  %.2f times the time for twice as many" % (double / once), flush=True)
+
+
+def grown(name, make, few, many):
+    """The same statements over few and over many rows."""
+    took, sqlite, _ = measured(*make(few))
+    line("500 %s over %d rows" % (name, few), took, sqlite)
+    more, sqlite, _ = measured(*make(many))
+    line("500 %s over %d rows" % (name, many), more, sqlite)
+    print("  %.2f times the time for %d times as many rows" % (more / took, many // few), flush=True)
+
+
+def one(name, made):
+    took, sqlite, peak = measured(*made)
+    line(name, took, sqlite)
+    return peak
+
+
+def product():
+    peak = one("COUNT(*) over 10,000,000 combined rows", counted(10_000, 1_000))
+    _, before = ours(counted(10_000, 1_000)[0])
+    print("  a peak of %.1f MB, and of %.1f MB without it" % (peak / 1e6, before / 1e6), flush=True)
+
+
+def row_bytes():
+    rows = 100_000
+    _, full = ours(table("t", rows))
+    _, empty = ours(table("t", TUPLES))
+    print("a row of two numbers and a short text, with its key's entry: %d bytes" % ((full - empty) // (rows - TUPLES)), flush=True)
+
+
+KINDS = {
+    "INSERT": lambda: twice("INSERTs of a row into a table with a key", inserts, 10_000),
+    "UPDATE by key": lambda: grown("UPDATEs by key", updates, 1_000, 100_000),
+    "DELETE by key": lambda: grown("DELETEs by key", deletes, 1_000, 100_000),
+    "SELECT by key": lambda: grown("SELECTs by key", selects, 1_000, 100_000),
+    "join by key": lambda: one("a join by key of 10,000 rows with 1,000", join(10_000, 1_000)),
+    "three-way join by key": lambda: one("a join by key of three tables of 200 rows", three(200)),
+    "three-way join": lambda: one("a join of three tables of 200 rows by columns that are no keys", three_by_other_columns(200)),
+    "COUNT": product,
+    "SELECT of all rows": lambda: one("20 SELECTs with a WHERE on each of 10,000 rows", filters(10_000)),
+    "ORDER BY": lambda: twice("rows in ORDER BY two columns", orders, 10_000),
+    "GROUP BY": lambda: twice("rows in GROUP BY a text", groups, 10_000),
+    "bytes of a row": row_bytes,
+}
 
 
 def main():
-    size = int(sys.argv[1]) if len(sys.argv) > 1 else 10_000
     # Builds the program where it is not built.
     subprocess.run(["rt", "run"], cwd=FOLDER, stdin=subprocess.DEVNULL, stdout=subprocess.DEVNULL, stderr=subprocess.DEVNULL, check=False)
-    for kind in KINDS:
-        once, twice = measured(kind, size), measured(kind, 2 * size)
-        print("%s: %.3f s at %d, %.3f s at %d, %.2f times the time" % (kind, once, size, twice, 2 * size, twice / once), flush=True)
+    words = sys.argv[1:]
+    for name, measure in KINDS.items():
+        if not words or any(word in name for word in words):
+            measure()
 
 
 if __name__ == "__main__":
