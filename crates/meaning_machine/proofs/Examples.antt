@@ -22,10 +22,10 @@ use Rattle.fs_command.specs.declared.line.FileLine.TheVariants as asked
 use Rattle.meaning_machine.specs.Turns.{Sessions, no_sessions, is_built_statement, refused, context_of, by_line, by_actor}
 use Rattle.meaning_script.specs.declared.turn.Turn.TheVariants as turns
 use Rattle.meaning_statements.specs.Changing.{create, drop_table}
-use Rattle.run_script.specs.declared.kind.Line.{Line}
-use Rattle.run_script.specs.declared.kind.Line.TheVariants as lines
-use Rattle.run_script.specs.declared.kind.Order.TheVariants as orders
-use Rattle.run_script.specs.declared.kind.Sentence.TheVariants as sentences
+use Rattle.meaning_script.specs.declared.kind.Line.{Line}
+use Rattle.meaning_script.specs.declared.kind.Line.TheVariants as lines
+use Rattle.meaning_script.specs.declared.kind.Order.TheVariants as orders
+use Rattle.meaning_script.specs.declared.kind.Sentence.TheVariants as sentences
 
 abbrev given : Settings
 given = record { server = codes "fs1"; key = replicate 32 0; now = 7; life = 60; limit = 1000 }

@@ -18,13 +18,13 @@ use Rattle.meaning_script.specs.declared.turn.Turn.{Turn}
 use Rattle.meaning_script.specs.declared.turn.Turn.TheVariants as turns
 use Rattle.meaning_sql.specs.declared.Context.{Context}
 use Rattle.meaning_tables.specs.Tables.{Tables}
-use Rattle.run_script.specs.Actors.{actor_of, is_extra, with_actor}
+use Rattle.meaning_script.specs.Actors.{actor_of, is_extra, with_actor}
 use Rattle.run_lines.specs.Reading.{Reads}
 use Rattle.sql_run.specs.Outcomes.{evaluated, answer_of}
-use Rattle.run_script.specs.declared.kind.Line.{Line}
-use Rattle.run_script.specs.declared.kind.Line.TheVariants as lines
-use Rattle.run_script.specs.declared.kind.Sentence.{Sentence}
-use Rattle.run_script.specs.declared.kind.Sentence.TheVariants as sentences
+use Rattle.meaning_script.specs.declared.kind.Line.{Line}
+use Rattle.meaning_script.specs.declared.kind.Line.TheVariants as lines
+use Rattle.meaning_script.specs.declared.kind.Sentence.{Sentence}
+use Rattle.meaning_script.specs.declared.kind.Sentence.TheVariants as sentences
 
 -- What stands between two lines of a run beside the files: the tables, which last for the run, and the actors so far.
 pub record Sessions : Type 0 where

@@ -1,4 +1,8 @@
+pub mod Orders
 pub mod Lines
-pub mod Printed
 pub mod Refusals
+pub mod Printed
 pub mod Steps
+pub mod Expansion
+pub mod Outlines
+pub mod Actors

@@ -1,12 +1,12 @@
 -- Each line is read as something, and as one thing.
 use Rattle.std.proofs.Common.{◌≡◌, ◌≢◌, ◌+◌, ℕ, List, drop, Ok, Err, refl, sym, ◌∙◌}
 use Rattle.dl_base.specs.declared.answer.Refusal.TheVariants as refusals
-use Rattle.run_script.specs.Outlines.{bad_at, outline}
-use Rattle.run_script.specs.declared.kind.Line.{Line}
-use Rattle.run_script.specs.declared.kind.Line.TheVariants as lines
-use Rattle.run_script.specs.declared.kind.Outline.{Outline}
-use Rattle.run_script.specs.declared.kind.Outline.TheVariants as outlines
-use Rattle.run_script.specs.declared.kind.Sentence.TheVariants as sentences
+use Rattle.meaning_script.specs.Outlines.{bad_at, outline}
+use Rattle.meaning_script.specs.declared.kind.Line.{Line}
+use Rattle.meaning_script.specs.declared.kind.Line.TheVariants as lines
+use Rattle.meaning_script.specs.declared.kind.Outline.{Outline}
+use Rattle.meaning_script.specs.declared.kind.Outline.TheVariants as outlines
+use Rattle.meaning_script.specs.declared.kind.Sentence.TheVariants as sentences
 use Rattle.sql_syntax.specs.Parsing.{Parses, Agrees}
 use Rattle.sql_syntax.specs.declared.parser.ParseFault.TheVariants as faults
 use Rattle.run_lines.specs.Reading.{IsStatement, IsFilled, Reads}

@@ -1,7 +1,7 @@
 -- What the grammar answers is the only line that a statement's text makes.
 use Rattle.std.proofs.Common.{◌≡◌, ℕ, List, Result, Ok, Err, IfOk, sym, ◌∙◌, subst}
 use Rattle.dl_base.specs.declared.statement.Stmt.{Stmt}
-use Rattle.run_script.specs.declared.kind.Line.{Line}
+use Rattle.meaning_script.specs.declared.kind.Line.{Line}
 use Rattle.sql_syntax.specs.Parsing.{Parses, Agrees}
 use Rattle.sql_syntax.specs.declared.parser.ParseFault.{ParseFault}
 use Rattle.sql_syntax.specs.declared.parser.ParseFault.TheVariants as faults

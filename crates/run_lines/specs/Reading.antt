@@ -2,12 +2,12 @@
 use Rattle.std.specs.Prelude.{◌≡◌, ℕ, ◌+◌, List, drop, Result, Ok, Err}
 use Rattle.dl_base.specs.declared.answer.Refusal.TheVariants as refusals
 use Rattle.dl_base.specs.declared.statement.Stmt.{Stmt}
-use Rattle.run_script.specs.Outlines.{bad_at, outline}
-use Rattle.run_script.specs.declared.kind.Line.{Line}
-use Rattle.run_script.specs.declared.kind.Line.TheVariants as lines
-use Rattle.run_script.specs.declared.kind.Outline.{Outline}
-use Rattle.run_script.specs.declared.kind.Outline.TheVariants as outlines
-use Rattle.run_script.specs.declared.kind.Sentence.TheVariants as sentences
+use Rattle.meaning_script.specs.Outlines.{bad_at, outline}
+use Rattle.meaning_script.specs.declared.kind.Line.{Line}
+use Rattle.meaning_script.specs.declared.kind.Line.TheVariants as lines
+use Rattle.meaning_script.specs.declared.kind.Outline.{Outline}
+use Rattle.meaning_script.specs.declared.kind.Outline.TheVariants as outlines
+use Rattle.meaning_script.specs.declared.kind.Sentence.TheVariants as sentences
 use Rattle.sql_syntax.specs.Parsing.{Parses}
 use Rattle.sql_syntax.specs.declared.parser.ParseFault.{ParseFault}
 use Rattle.sql_syntax.specs.declared.parser.ParseFault.TheVariants as faults

@@ -3,8 +3,8 @@ ghost use Rattle.std.specs.Prelude.{◌≡◌, ◌≤◌, ◌+◌, ℕ, List, le
 ghost use Rattle.dl_base.specs.Limits.{most_line_bytes};
 ghost use Rattle.run_lines.specs.Reading.{Reads, IsFilled, IsStatement, Shows};
 ghost use Rattle.sql_syntax.specs.Parsing.{Parses};
-ghost use Rattle.run_script.specs.Expansion.{IsRead};
-ghost use Rattle.run_script.specs.declared.kind.Line.{Line as Meant};
+ghost use Rattle.meaning_script.specs.Expansion.{IsRead};
+ghost use Rattle.meaning_script.specs.declared.kind.Line.{Line as Meant};
 
 use dl_base::{Memory, Name, Refusal};
 use run_script::{Line, Outline, Sentence, read_outline};

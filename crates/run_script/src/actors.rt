@@ -2,7 +2,7 @@
 ghost use Rattle.std.specs.Prelude.{◌≡◌, ◌==◌, [], not, bytes_eq, IfOk, OnOk, OnErr};
 ghost use Rattle.std.specs.List.{position};
 ghost use Rattle.std.specs.Option.{option_map};
-ghost use Rattle.run_script.specs.Actors.{actor_of, session_in, is_known, is_extra, with_actor, session_number, is_user_mark};
+ghost use Rattle.meaning_script.specs.Actors.{actor_of, session_in, is_known, is_extra, with_actor, session_number, is_user_mark};
 
 use crate::line::is_quiet;
 use crate::outline::{colon, is_session, word_len};
@@ -15,7 +15,7 @@ use std::marker::Model;
 /// The actor of a line, as it stands at the line's front: `NAME` of a session, or `@USER`. A line has one also where the rest of it is
 /// bad; blanks, comments, lines of the system, lines that are too long and lines whose first word is bad have none. It takes no
 /// memory.
-#[tactic(auto, unfolding(crate::specs::Actors::actor_of))]
+#[tactic(auto, unfolding(meaning_script::specs::Actors::actor_of))]
 pub fn actor_of(line: &[u8]) -> Option<&[u8]>
     ensures { option_map (λ a. a.now) result ≡ actor_of line.now }
 {

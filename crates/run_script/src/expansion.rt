@@ -4,42 +4,16 @@ ghost use Rattle.std.specs.Option.{option_map};
 ghost use Rattle.dl_base.specs.declared.file.FileWhat.{FileWhat as What};
 ghost use Rattle.fs_command.specs.Commands.{asked as asks, read_of_path};
 ghost use Rattle.dl_token.specs.Tokens.{read_token};
-ghost use Rattle.run_script.specs.Expansion.{meant, expansion, IsRead, behind_statement, behind_prepare, behind_decide, behind_finish, no_value, is_refused, is_commit, is_begun, is_archived, one, alone, is_alone, statement, step_from, goes_on, first_step, commit_behind, commit, session, read_of, file, archive, backup_from, backup_behind, backup, crash_both, system};
+ghost use Rattle.meaning_script.specs.Expansion.{meant, expansion, IsRead, behind_statement, behind_prepare, behind_decide, behind_finish, no_value, is_refused, is_commit, is_begun, is_archived, one, alone, is_alone, statement, step_from, goes_on, first_step, commit_behind, commit, session, read_of, file, archive, backup_from, backup_behind, backup, crash_both, system};
 
-use crate::kind::{Line, Order, Sentence};
 use dl_base::{
     Answer, FileCmd, FileWhat, LinkNo, List, Memory, Name, Path, Phase, Refusal, Step, Stmt, Text,
     is_path,
 };
 use dl_token::read_token;
 use fs_command::FileLine;
+use meaning_script::{ActorState, Line, Next, Order, Sentence};
 use std::alloc::Global;
-
-/// How the actor of a line is, at the moment.
-#[derive(Drop)]
-pub struct ActorState {
-    /// The session's number, from 1.
-    pub session: u32,
-    /// How far its transaction is, if it has one.
-    pub phase: Option<Phase>,
-    /// What `$NAME` stands for: the text of the first cell of the first row of the last grid that the session was answered.
-    pub last: Option<Text>,
-}
-
-/// What a line comes to.
-#[derive(Drop)]
-pub enum Next<'a> {
-    /// It does one more step.
-    Do(Step),
-    /// It does the step `Statement` of a session, with the line's own statement.
-    Statement(u32, &'a Stmt),
-    /// It is answered as its step with this number was, counted from 0.
-    Given(usize),
-    /// It is answered what none of its steps was.
-    Answered(Answer),
-    /// It is answered nothing.
-    Nothing,
-}
 
 /// What a line comes to behind the answers of its steps so far. The actor's state, and the links whose copies are pending, are
 /// those of the moment of the call; for a read of `$NAME` the actor's `last` is that of the session named.
@@ -47,7 +21,7 @@ pub enum Next<'a> {
 /// A statement outside a transaction is Begin, Statement, Prepare, Decide and Finish; Rollback follows where Statement or Prepare
 /// is refused, nothing where Decide drops the transaction; its answer is the first refusal, or else the Statement's. COMMIT is
 /// those of Prepare, Decide and Finish that the phase still needs, up to the first refusal or drop.
-#[tactic(auto, unfolding(crate::specs::Expansion::expansion))]
+#[tactic(auto, unfolding(meaning_script::specs::Expansion::expansion))]
 pub fn expand<'a>(
     alloc: Global,
     line: &'a Line,
@@ -111,7 +85,7 @@ fn one<'a>(step: Step, answers: &[Answer]) -> Next<'a>
     }
 }
 
-#[tactic(auto, unfolding(crate::specs::Expansion::session))]
+#[tactic(auto, unfolding(meaning_script::specs::Expansion::session))]
 fn session<'a>(actor: &ActorState, sentence: &'a Sentence, answers: &[Answer]) -> Next<'a>
     ensures { meant result ≡ session actor.now sentence.entry.now answers.now }
 {
@@ -127,7 +101,7 @@ fn session<'a>(actor: &ActorState, sentence: &'a Sentence, answers: &[Answer]) -
 }
 
 // A statement, in a transaction or outside one.
-#[tactic(auto, unfolding(crate::specs::Expansion::statement))]
+#[tactic(auto, unfolding(meaning_script::specs::Expansion::statement))]
 fn statement<'a>(actor: &ActorState, stmt: &'a Stmt, answers: &[Answer]) -> Next<'a>
     ensures { meant result ≡ statement actor.now stmt.entry.now answers.now }
 {
@@ -149,7 +123,7 @@ fn is_alone(actor: &ActorState, answers: &[Answer]) -> bool
     }
 }
 
-#[tactic(auto, unfolding(crate::specs::Expansion::alone))]
+#[tactic(auto, unfolding(meaning_script::specs::Expansion::alone))]
 fn alone<'a>(number: u32, stmt: &'a Stmt, answers: &[Answer]) -> Next<'a>
     ensures { meant result ≡ alone number stmt.entry.now answers.now }
 {
@@ -163,7 +137,7 @@ fn alone<'a>(number: u32, stmt: &'a Stmt, answers: &[Answer]) -> Next<'a>
     }
 }
 
-#[tactic(auto, unfolding(crate::specs::Expansion::behind_statement))]
+#[tactic(auto, unfolding(meaning_script::specs::Expansion::behind_statement))]
 fn behind_statement<'a>(number: u32, said: &Answer) -> Next<'a>
     ensures { meant result ≡ behind_statement number said.now }
 {
@@ -173,7 +147,7 @@ fn behind_statement<'a>(number: u32, said: &Answer) -> Next<'a>
     Next::Do(Step::Prepare(number))
 }
 
-#[tactic(auto, unfolding(crate::specs::Expansion::behind_prepare))]
+#[tactic(auto, unfolding(meaning_script::specs::Expansion::behind_prepare))]
 fn behind_prepare<'a>(number: u32, said: &Answer, prepared: &Answer) -> Next<'a>
     ensures { meant result ≡ behind_prepare number said.now prepared.now }
 {
@@ -186,7 +160,7 @@ fn behind_prepare<'a>(number: u32, said: &Answer, prepared: &Answer) -> Next<'a>
     Next::Do(Step::Decide(number))
 }
 
-#[tactic(auto, unfolding(crate::specs::Expansion::behind_decide))]
+#[tactic(auto, unfolding(meaning_script::specs::Expansion::behind_decide))]
 fn behind_decide<'a>(number: u32, prepared: &Answer, decided: &Answer) -> Next<'a>
     ensures { meant result ≡ behind_decide number prepared.now decided.now }
 {
@@ -212,7 +186,7 @@ fn behind_finish<'a>(finished: &Answer) -> Next<'a>
 }
 
 // COMMIT.
-#[tactic(auto, unfolding(crate::specs::Expansion::commit))]
+#[tactic(auto, unfolding(meaning_script::specs::Expansion::commit))]
 fn commit<'a>(actor: &ActorState, answers: &[Answer]) -> Next<'a>
     ensures { meant result ≡ commit actor.now answers.now }
 {
@@ -231,7 +205,7 @@ fn first_step(number: u32, phase: Option<Phase>) -> Step
     }
 }
 
-#[tactic(auto, unfolding(crate::specs::Expansion::commit_behind))]
+#[tactic(auto, unfolding(meaning_script::specs::Expansion::commit_behind))]
 fn commit_behind<'a>(
     number: u32,
     phase: Option<Phase>,
@@ -258,7 +232,7 @@ fn step_from(number: u32, phase: Option<Phase>) -> Option<Step>
     }
 }
 
-#[tactic(auto, unfolding(crate::specs::Expansion::goes_on))]
+#[tactic(auto, unfolding(meaning_script::specs::Expansion::goes_on))]
 fn goes_on<'a>(step: Option<Step>, answers: &[Answer]) -> Next<'a>
     ensures { meant result ≡ goes_on step answers.now }
 {
@@ -278,7 +252,7 @@ fn commit_in(answers: &[Answer]) -> Option<usize>
     answers.iter().position(|a| is_commit(a))
 }
 
-#[tactic(auto, unfolding(crate::specs::Expansion::file))]
+#[tactic(auto, unfolding(meaning_script::specs::Expansion::file))]
 fn file<'a>(
     alloc: Global,
     actor: &ActorState,
@@ -321,7 +295,7 @@ fn what_of(what: &FileWhat) -> Result<FileWhat, Memory>
 }
 
 // A read of what `$NAME` stands for.
-#[tactic(auto, unfolding(crate::specs::Expansion::read_of))]
+#[tactic(auto, unfolding(meaning_script::specs::Expansion::read_of))]
 fn read_of<'a>(
     alloc: Global,
     user: &Name,
@@ -362,7 +336,7 @@ fn source_of(alloc: Global, text: &[u8]) -> Result<Option<FileWhat>, Memory>
 }
 
 // `! archive`.
-#[tactic(auto, unfolding(crate::specs::Expansion::archive))]
+#[tactic(auto, unfolding(meaning_script::specs::Expansion::archive))]
 fn archive<'a>(done: usize, pending: &[LinkNo]) -> Next<'a>
     ensures { meant result ≡ archive done pending.now }
 {
@@ -373,7 +347,7 @@ fn archive<'a>(done: usize, pending: &[LinkNo]) -> Next<'a>
 }
 
 // The next step of `! backup`.
-#[tactic(auto, unfolding(crate::specs::Expansion::backup_from))]
+#[tactic(auto, unfolding(meaning_script::specs::Expansion::backup_from))]
 fn backup_from<'a>(pending: &[LinkNo]) -> Next<'a>
     ensures { meant result ≡ backup_from pending.now }
 {
@@ -384,7 +358,7 @@ fn backup_from<'a>(pending: &[LinkNo]) -> Next<'a>
 }
 
 // `! backup`.
-#[tactic(auto, unfolding(crate::specs::Expansion::backup))]
+#[tactic(auto, unfolding(meaning_script::specs::Expansion::backup))]
 fn backup<'a>(answers: &[Answer], pending: &[LinkNo]) -> Next<'a>
     ensures { meant result ≡ backup answers.now pending.now }
 {
@@ -394,7 +368,7 @@ fn backup<'a>(answers: &[Answer], pending: &[LinkNo]) -> Next<'a>
     }
 }
 
-#[tactic(auto, unfolding(crate::specs::Expansion::backup_behind))]
+#[tactic(auto, unfolding(meaning_script::specs::Expansion::backup_behind))]
 fn backup_behind<'a>(answers: &[Answer], pending: &[LinkNo], last: &Answer) -> Next<'a>
     requires { 0 < length answers.now }
     ensures { meant result ≡ backup_behind answers.now pending.now last.now }
@@ -405,7 +379,7 @@ fn backup_behind<'a>(answers: &[Answer], pending: &[LinkNo], last: &Answer) -> N
     Next::Given(answers.len() - 1)
 }
 
-#[tactic(auto, unfolding(crate::specs::Expansion::crash_both))]
+#[tactic(auto, unfolding(meaning_script::specs::Expansion::crash_both))]
 fn crash_both<'a>(answers: &[Answer]) -> Next<'a>
     ensures { meant result ≡ crash_both answers.now }
 {
@@ -417,7 +391,7 @@ fn crash_both<'a>(answers: &[Answer]) -> Next<'a>
     }
 }
 
-#[tactic(auto, unfolding(crate::specs::Expansion::system))]
+#[tactic(auto, unfolding(meaning_script::specs::Expansion::system))]
 fn system<'a>(order: Order, answers: &[Answer], pending: &[LinkNo]) -> Next<'a>
     ensures { meant result ≡ system order answers.now pending.now }
 {

@@ -3,14 +3,13 @@
 
 mod actors;
 mod expansion;
-mod kind;
 mod line;
 mod order;
 mod outline;
 mod user;
 
 pub use actors::{Actors, actor_of, session_number};
-pub use expansion::{ActorState, Next, expand};
-pub use kind::{Line, Order, Outline, Sentence};
+pub use expansion::expand;
 pub use line::{first_line, is_quiet};
+pub use meaning_script::{ActorState, Line, Next, Order, Outline, Sentence};
 pub use outline::read_outline;

@@ -4,21 +4,14 @@ ghost use Rattle.std.specs.List.{slice_range};
 ghost use Rattle.std.specs.Result.{IfErr};
 ghost use Rattle.fs_command.specs.Words.{words_from, word_at};
 ghost use Rattle.fs_command.specs.Commands.{IsReading, IsPlaceOf, word};
-ghost use Rattle.run_script.specs.Orders.{order, number, tick, restore, crash, kept_in, crash_in, target};
+ghost use Rattle.meaning_script.specs.Orders.{order, number, tick, restore, crash, kept_in, crash_in, target};
 
-use crate::kind::Order;
 use dl_base::{Target, number_in};
 use fs_command::{BadPlace, misplaced, next_word, nothing_behind};
-
-/// What `restore` names.
-#[derive(Clone, Copy, Debug, PartialEq, Eq)]
-pub(crate) enum Kept {
-    Backup,
-    Commit,
-}
+use meaning_script::{Kept, Order};
 
 /// The order that a text behind a `!` is. A bad place counts the bytes of the text from 1. It takes no memory.
-#[tactic(auto, unfolding(crate::specs::Orders::order))]
+#[tactic(auto, unfolding(meaning_script::specs::Orders::order))]
 pub(crate) fn read_order(text: &[u8]) -> Result<Order, BadPlace>
     ensures exact { IsReading result (order text.now) }
     ensures place { IfErr result (λ e. IsPlaceOf text.now e.place) }
@@ -47,7 +40,7 @@ pub(crate) fn read_order(text: &[u8]) -> Result<Order, BadPlace>
     Err(misplaced(verb.begin))
 }
 
-#[tactic(auto, unfolding(crate::specs::Orders::tick))]
+#[tactic(auto, unfolding(meaning_script::specs::Orders::tick))]
 fn tick(text: &[u8], at: usize) -> Result<Order, BadPlace>
     requires { at ≤ length text.now }
     ensures exact { IsReading result (tick (length text.now + 1) (words_from at text.now)) }
@@ -57,7 +50,7 @@ fn tick(text: &[u8], at: usize) -> Result<Order, BadPlace>
     nothing_behind(Order::Tick(seconds), text, end)
 }
 
-#[tactic(auto, unfolding(crate::specs::Orders::restore))]
+#[tactic(auto, unfolding(meaning_script::specs::Orders::restore))]
 fn restore(text: &[u8], at: usize) -> Result<Order, BadPlace>
     requires { at ≤ length text.now }
     ensures exact { IsReading result (restore (length text.now + 1) (words_from at text.now)) }
@@ -92,7 +85,7 @@ fn target(kept: Kept, n: u64) -> Target
     }
 }
 
-#[tactic(auto, unfolding(crate::specs::Orders::crash))]
+#[tactic(auto, unfolding(meaning_script::specs::Orders::crash))]
 fn crash(text: &[u8], at: usize) -> Result<Order, BadPlace>
     requires { at ≤ length text.now }
     ensures exact { IsReading result (crash (length text.now + 1) (words_from at text.now)) }

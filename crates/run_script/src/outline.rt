@@ -5,17 +5,17 @@ ghost use Rattle.dl_base.specs.Limits.{most_line_bytes};
 ghost use Rattle.dl_base.specs.Name.{IsName};
 ghost use Rattle.fs_command.specs.Commands.{command, is_session};
 ghost use Rattle.fs_command.specs.Words.{words_from};
-ghost use Rattle.run_script.specs.Expansion.{IsRead};
-ghost use Rattle.run_script.specs.Orders.{order};
-ghost use Rattle.run_script.specs.Outlines.{bad_at, system_line, file_line, user_line, word_len, step_in, by_step, sentence, session_line, by_mark, outline, IsWithin};
+ghost use Rattle.meaning_script.specs.Expansion.{IsRead};
+ghost use Rattle.meaning_script.specs.Orders.{order};
+ghost use Rattle.meaning_script.specs.Outlines.{bad_at, system_line, file_line, user_line, word_len, step_in, by_step, sentence, session_line, by_mark, outline, IsWithin};
 
-use crate::kind::{Line, Outline, Sentence};
 use crate::line::is_quiet;
 use crate::order::read_order;
 use crate::user::{is_user, user_name};
 use dl_base::limits::{MOST_ACTOR_NAME_BYTES, MOST_LINE_BYTES};
 use dl_base::{Memory, Name, Refusal, is_name};
 use fs_command::{CommandFault, next_word, read_command};
+use meaning_script::{Line, Outline, Sentence};
 use std::alloc::Global;
 
 /// What a line of a script is. Its newline, and a carriage return before that, are no part of it.
@@ -25,7 +25,7 @@ use std::alloc::Global;
 /// command those of a user, `!` and an order those of the system; where the first word is none of these, the line is `BadLine(1)`.
 /// Else a bad line's place is that of the first word that fits no line behind those before it, or one past the line's end where a
 /// word is missing. Places count the bytes of the line from 1.
-#[tactic(auto, unfolding(crate::specs::Outlines::outline))]
+#[tactic(auto, unfolding(meaning_script::specs::Outlines::outline))]
 pub fn read_outline(alloc: Global, line: &[u8]) -> Result<Outline, Memory>
     ensures exact { IfOk result (λ o. o ≡ outline line.now) }
     ensures within { IfOk result (IsWithin (length line.now)) }
@@ -78,7 +78,7 @@ pub(crate) fn word_len(text: &[u8]) -> usize
 }
 
 // What stands behind an `@`.
-#[tactic(auto, unfolding(crate::specs::Outlines::user_line))]
+#[tactic(auto, unfolding(meaning_script::specs::Outlines::user_line))]
 fn user_line(alloc: Global, text: &[u8]) -> Result<Line, Memory>
     requires { length text.now ≤ most_line_bytes }
     ensures exact { IfOk result (λ l. l ≡ user_line text.now) }
@@ -123,7 +123,7 @@ pub(crate) fn is_session(name: &[u8]) -> bool
     is_name(name) && name.len() <= MOST_ACTOR_NAME_BYTES
 }
 
-#[tactic(auto, unfolding(crate::specs::Outlines::session_line))]
+#[tactic(auto, unfolding(meaning_script::specs::Outlines::session_line))]
 fn session_line(alloc: Global, line: &[u8]) -> Result<Outline, Memory>
     requires { length line.now ≤ most_line_bytes }
     ensures exact { IfOk result (λ o. o ≡ session_line line.now) }
@@ -151,7 +151,7 @@ fn said(alloc: Global, line: &[u8], at: usize) -> Result<Outline, Memory>
 }
 
 // What stands behind the colon of a session, and behind so many bytes of the line.
-#[tactic(auto, unfolding(crate::specs::Outlines::sentence))]
+#[tactic(auto, unfolding(meaning_script::specs::Outlines::sentence))]
 fn sentence(name: Name, before: usize, text: &[u8]) -> Outline
     requires { before + length text.now ≤ most_line_bytes }
     ensures exact { result ≡ sentence name before text.now }

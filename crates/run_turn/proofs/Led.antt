@@ -5,8 +5,8 @@ use Rattle.meaning_machine.specs.Turns.{Sessions, IsTurn, by_actor, by_right}
 use Rattle.meaning_script.specs.declared.turn.Turn.{Turn}
 use Rattle.meaning_tables.specs.Tables.{Tables}
 use Rattle.run_lines.specs.Reading.{Reads}
-use Rattle.run_script.specs.Actors.{actor_of, is_extra, with_actor}
-use Rattle.run_script.specs.declared.kind.Line.{Line}
+use Rattle.meaning_script.specs.Actors.{actor_of, is_extra, with_actor}
+use Rattle.meaning_script.specs.declared.kind.Line.{Line}
 
 module _ (given : Settings) (tables : Tables) (old now : List (List ℕ)) (bytes : List ℕ) (may : Bool) (line : Line)
     (start : Sessions) (begun : record { tables = tables; actors = old } ≡ start) (known : now ≡ with_actor old (actor_of bytes)) (counted : may ≡ not (is_extra old (actor_of bytes))) where

@@ -4,8 +4,8 @@ use Rattle.dl_base.specs.declared.step.Settings.{Settings}
 use Rattle.meaning_machine.specs.Turns.{Sessions, IsTurn, AreTurns, by_actor}
 use Rattle.meaning_script.specs.declared.turn.Turn.{Turn}
 use Rattle.run_lines.specs.Reading.{Reads}
-use Rattle.run_script.specs.Actors.{actor_of}
-use Rattle.run_script.specs.declared.kind.Line.{Line}
+use Rattle.meaning_script.specs.Actors.{actor_of}
+use Rattle.meaning_script.specs.declared.kind.Line.{Line}
 
 abbrev pub ReadsEach : Type 0
 ReadsEach = (bytes : List ℕ) → (l : Line) × Reads bytes l

@@ -1,4 +1,4 @@
-ghost use Rattle.run_script.specs.Expansion.{IsRead};
+ghost use Rattle.meaning_script.specs.Expansion.{IsRead};
 
 use dl_base::{Answer, LinkNo, List, Memory, Phase, Refusal, Step, Target, Text};
 use run_lines::read_line;

@@ -1,6 +1,6 @@
 use Rattle.std.proofs.Common.{Ok, refl}
-use Rattle.run_script.specs.declared.kind.Line.TheVariants as lines
-use Rattle.run_script.specs.declared.kind.Sentence.TheVariants as sentences
+use Rattle.meaning_script.specs.declared.kind.Line.TheVariants as lines
+use Rattle.meaning_script.specs.declared.kind.Sentence.TheVariants as sentences
 use Rattle.run_lines.proofs.Only.{only_line, shown_line, shown_only}
 use Rattle.run_lines.proofs.read.statement.Goals as goal
 

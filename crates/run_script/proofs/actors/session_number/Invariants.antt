@@ -1,5 +1,5 @@
 use Rattle.std.proofs.Common.{◌≡◌, ◌+◌, ◌≤◌, drop}
-use Rattle.run_script.specs.Actors.{number_from, sessions}
+use Rattle.meaning_script.specs.Actors.{number_from, sessions}
 use Rattle.run_script.proofs.actors.session_number.Given as goal
 
 abbrev pub invariant-actors : goal.invariant-actors

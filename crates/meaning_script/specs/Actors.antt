@@ -4,7 +4,7 @@ use Rattle.std.specs.List.{list_any, position}
 use Rattle.dl_base.specs.Limits.{most_actors, most_line_bytes}
 use Rattle.fs_command.specs.Commands.{is_session}
 use Rattle.meaning_script.specs.Lines.{is_quiet, is_user}
-use Rattle.run_script.specs.Outlines.{word_len}
+use Rattle.meaning_script.specs.Outlines.{word_len}
 
 -- The actor of a line, as it stands at the line's front: `NAME`, or `@USER`. A line names one also where the rest of it is bad.
 abbrev pub user_in : List ℕ → Option (List ℕ)

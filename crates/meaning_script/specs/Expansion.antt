@@ -15,15 +15,15 @@ use Rattle.fs_command.specs.Commands.{read_of_path}
 use Rattle.fs_command.specs.declared.line.FileLine.{FileLine}
 use Rattle.fs_command.specs.declared.line.FileLine.TheVariants as files
 use Rattle.dl_token.specs.Tokens.{read_token}
-use Rattle.run_script.specs.declared.expansion.ActorState.{ActorState}
-use Rattle.run_script.specs.declared.expansion.Next.{Next}
-use Rattle.run_script.specs.declared.expansion.Next.TheVariants as nexts
-use Rattle.run_script.specs.declared.kind.Line.{Line}
-use Rattle.run_script.specs.declared.kind.Line.TheVariants as lines
-use Rattle.run_script.specs.declared.kind.Order.{Order}
-use Rattle.run_script.specs.declared.kind.Order.TheVariants as orders
-use Rattle.run_script.specs.declared.kind.Sentence.{Sentence}
-use Rattle.run_script.specs.declared.kind.Sentence.TheVariants as sentences
+use Rattle.meaning_script.specs.declared.next.ActorState.{ActorState}
+use Rattle.meaning_script.specs.declared.next.Next.{Next}
+use Rattle.meaning_script.specs.declared.next.Next.TheVariants as nexts
+use Rattle.meaning_script.specs.declared.kind.Line.{Line}
+use Rattle.meaning_script.specs.declared.kind.Line.TheVariants as lines
+use Rattle.meaning_script.specs.declared.kind.Order.{Order}
+use Rattle.meaning_script.specs.declared.kind.Order.TheVariants as orders
+use Rattle.meaning_script.specs.declared.kind.Sentence.{Sentence}
+use Rattle.meaning_script.specs.declared.kind.Sentence.TheVariants as sentences
 
 -- What a line comes to, behind the answers of its steps so far: one more step, or its answer, which is that of a step by its
 -- number from 0, or one that no step gave; or it is answered nothing.

@@ -46,6 +46,13 @@ pub enum Order {
     Resolve,
 }
 
+/// What `restore` names.
+#[derive(Clone, Copy, Debug, PartialEq, Eq)]
+pub enum Kept {
+    Backup,
+    Commit,
+}
+
 /// What a line is, as far as it is no statement.
 #[derive(Drop)]
 pub enum Outline {

@@ -5,10 +5,10 @@ use Rattle.dl_base.specs.declared.step.Target.TheVariants as targets
 use Rattle.fs_command.specs.Words.{Word, words}
 use Rattle.fs_command.specs.Commands.{◌>>=◌, Part, Ending, word, nothing, first, is}
 use Rattle.dl_base.specs.Digits.{number_in}
-use Rattle.run_script.specs.declared.kind.Order.{Order}
-use Rattle.run_script.specs.declared.kind.Order.TheVariants as orders
-use Rattle.run_script.specs.declared.order.Kept.{Kept}
-use Rattle.run_script.specs.declared.order.Kept.TheVariants as kept
+use Rattle.meaning_script.specs.declared.kind.Order.{Order}
+use Rattle.meaning_script.specs.declared.kind.Order.TheVariants as orders
+use Rattle.meaning_script.specs.declared.kind.Kept.{Kept}
+use Rattle.meaning_script.specs.declared.kind.Kept.TheVariants as kept
 
 -- N: 1 to 10 decimal digits, that are at most a bound
 abbrev pub number : ℕ → Part ℕ

@@ -7,15 +7,15 @@ use Rattle.fs_command.specs.Commands.{command, is, is_session}
 use Rattle.fs_command.specs.Words.{Word, words}
 use Rattle.fs_command.specs.declared.line.FileLine.{FileLine}
 use Rattle.meaning_script.specs.Lines.{is_quiet, is_user}
-use Rattle.run_script.specs.Expansion.{IsRead}
-use Rattle.run_script.specs.Orders.{order}
-use Rattle.run_script.specs.declared.kind.Line.{Line}
-use Rattle.run_script.specs.declared.kind.Line.TheVariants as lines
-use Rattle.run_script.specs.declared.kind.Order.{Order}
-use Rattle.run_script.specs.declared.kind.Outline.{Outline}
-use Rattle.run_script.specs.declared.kind.Outline.TheVariants as outlines
-use Rattle.run_script.specs.declared.kind.Sentence.{Sentence}
-use Rattle.run_script.specs.declared.kind.Sentence.TheVariants as sentences
+use Rattle.meaning_script.specs.Expansion.{IsRead}
+use Rattle.meaning_script.specs.Orders.{order}
+use Rattle.meaning_script.specs.declared.kind.Line.{Line}
+use Rattle.meaning_script.specs.declared.kind.Line.TheVariants as lines
+use Rattle.meaning_script.specs.declared.kind.Order.{Order}
+use Rattle.meaning_script.specs.declared.kind.Outline.{Outline}
+use Rattle.meaning_script.specs.declared.kind.Outline.TheVariants as outlines
+use Rattle.meaning_script.specs.declared.kind.Sentence.{Sentence}
+use Rattle.meaning_script.specs.declared.kind.Sentence.TheVariants as sentences
 
 abbrev pub bad_at : ℕ → Line
 bad_at place = lines.Bad (refusals.BadLine place)

@@ -1,4 +1,0 @@
-pub mod Actors
-pub mod Expansion
-pub mod Orders
-pub mod Outlines
