@@ -1,5 +1,5 @@
 // The type of an expression, or the first breach.
-ghost use Rattle.std.specs.Prelude.{◌≡◌};
+ghost use Rattle.std.specs.Prelude.{◌≡◌, is_err, true, OnErr};
 ghost use Rattle.meaning_sql.specs.Faults.{Computes};
 ghost use Rattle.meaning_sql.specs.Types.{type_of};
 ghost use Rattle.meaning_sql.specs.Types as meaning;
@@ -13,17 +13,20 @@ use dl_base::{Expr, Ref, SqlFault};
 use meaning_sql::{AggregateScope, Columns, SqlType};
 
 /// The type of an expression where columns and aggregates may stand. The first breach is the answer, operands from left to right
-/// and each before its operator: `NoColumn`, `Ambiguous` or `TypeFault`, or `Memory`.
+/// and each before its operator: `NoColumn`, `Ambiguous` or `TypeFault`, or `Memory` in the place of these.
 pub fn check(expr: &Expr, columns: &Columns) -> Result<SqlType, SqlFault>
-    ensures { Computes (λ t. t) result (type_of columns.now AggregateScope.Item expr.now) }
+    ensures of_type { Computes (λ t. t) result (type_of columns.now AggregateScope.Item expr.now) }
+    ensures accepted { OnErr result (is_err (type_of columns.now AggregateScope.Item expr.now) ≡ true) }
 {
     check_in(expr, columns, &AggregateScope::Item)
 }
 
 /// The type of an expression at a place where that may stand, or its first breach, as `check`. An aggregate out of its place is
 /// refused before its operand, and a column outside of an aggregate that is no grouping column is refused at that column.
+#[tactic(auto, using(crate::proofs::Steps::refused_first, crate::proofs::Steps::refused_second, crate::proofs::Steps::refused_third))]
 pub fn check_in(expr: &Expr, columns: &Columns, scope: &AggregateScope) -> Result<SqlType, SqlFault>
-    ensures { Computes (λ t. t) result (type_of columns.now scope.now expr.now) }
+    ensures of_type { Computes (λ t. t) result (type_of columns.now scope.now expr.now) }
+    ensures accepted { OnErr result (is_err (type_of columns.now scope.now expr.now) ≡ true) }
 {
     match expr {
         Expr::Number(_) => Ok(SqlType::Int),
@@ -77,8 +80,10 @@ pub fn check_in(expr: &Expr, columns: &Columns, scope: &AggregateScope) -> Resul
     }
 }
 
+#[tactic(auto, using(crate::proofs::Steps::refused_first))]
 fn column_type(columns: &Columns, column: &Ref, scope: &AggregateScope) -> Result<SqlType, SqlFault>
-    ensures { Computes (λ t. t) result (meaning.column_type columns.now column.now scope.now) }
+    ensures of_type { Computes (λ t. t) result (meaning.column_type columns.now column.now scope.now) }
+    ensures accepted { OnErr result (is_err (meaning.column_type columns.now column.now scope.now) ≡ true) }
 {
     let place = place_of(columns, column)?;
     typed(
