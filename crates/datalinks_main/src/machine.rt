@@ -1,6 +1,9 @@
-// The system: each method is one call of it. What it does is trusted: no clause says it.
-ghost use Rattle.dl_host.specs.Blind.{blind, any_hold};
-ghost use Rattle.dl_host.specs.Laws.{blind_lawful};
+// The system: each method is one call of it, but the lock's, which opens the folder first. What a call does is trusted: no
+// clause says it. That it failed is counted.
+ghost use Rattle.std.specs.Prelude.{◌≡◌, ◌≤◌, is_err, is_some, IfOk, Ok};
+ghost use Rattle.dl_host.specs.Blind.{blind, held_where};
+ghost use Rattle.dl_host.specs.Hosts.{count_after, falls_short, with_faults};
+ghost use Rattle.dl_host.specs.Laws.{lawful_counted, blind_lawful};
 
 use dl_base::Area;
 use dl_host::{Host, Reader, Stop};
@@ -17,11 +20,13 @@ pub struct AreaFile {
     file: File,
 }
 
-/// The current folder, and standard output. It tells no content.
+/// The current folder, and standard output. It tells no content, and counts its faults.
 #[derive(Drop)]
 pub struct Machine<R: Files<File = File> + Print + Drop> {
     rt: R,
-    folder: File,
+    // open from its lock on, for its syncs
+    folder: Option<File>,
+    faults: u64,
 }
 
 /// Why a call stopped.
@@ -33,11 +38,49 @@ fn stop(why: io::Error) -> Stop {
 }
 
 impl<R: Files<File = File> + Print + Drop> Machine<R> {
-    /// The current folder, open for its lock and its syncs.
-    pub fn open(rt: R) -> Result<Machine<R>, Stop> {
-        match File::open(&rt, ".") {
-            Ok(folder) => Ok(Machine { rt, folder }),
-            Err(why) => Err(stop(why)),
+    /// The current folder. Nothing is asked of it before its lock.
+    pub fn new(rt: R) -> Machine<R> {
+        Machine {
+            rt,
+            folder: None,
+            faults: 0,
+        }
+    }
+
+    /// What a call answered; a fault is counted.
+    fn counted<T: Drop>(&mut self, answer: io::Result<T>) -> Result<T, Stop>
+        ensures ok { IfOk result (λ value. answer ≡ Ok value) }
+        ensures folder { self.new.folder ≡ self.old.folder }
+        ensures faults { self.new.faults ≡ count_after (is_err result) self.old.faults }
+        ensures later { self.old.faults ≤ self.new.faults }
+    {
+        match answer {
+            Ok(value) => Ok(value),
+            Err(why) => {
+                self.faults = self.faults.saturating_add(1);
+                Err(stop(why))
+            }
+        }
+    }
+
+    /// What a call for so many bytes answered; one that did none of them is a fault too.
+    fn counted_part(&mut self, answer: io::Result<usize>, asked: usize) -> Result<usize, Stop>
+        ensures ok { IfOk result (λ count. answer ≡ Ok count) }
+        ensures folder { self.new.folder ≡ self.old.folder }
+        ensures faults { self.new.faults ≡ count_after (falls_short asked result) self.old.faults }
+        ensures later { self.old.faults ≤ self.new.faults }
+    {
+        match answer {
+            Ok(count) => {
+                if count == 0 && asked > 0 {
+                    self.faults = self.faults.saturating_add(1);
+                }
+                Ok(count)
+            }
+            Err(why) => {
+                self.faults = self.faults.saturating_add(1);
+                Err(stop(why))
+            }
         }
     }
 }
@@ -45,70 +88,84 @@ impl<R: Files<File = File> + Print + Drop> Machine<R> {
 impl<R: Files<File = File> + Print + Drop> Host for Machine<R> {
     type File = AreaFile;
 
-    ghost outside = { λ _. blind };
+    ghost outside = { λ m. with_faults m.faults blind };
 
-    ghost hold = { λ _. any_hold };
+    ghost hold = { λ m. held_where (is_some m.folder) };
 
     ghost area_of = { λ f. f.area };
 
+    /// Opens the folder first: the one method of two calls.
     fn lock(&mut self) -> Result<(), Stop> {
-        match self.folder.try_lock() {
-            Ok(()) => Ok(()),
-            Err(_) => Err(Stop::Failed),
+        let opened = File::open(&self.rt, ".");
+        let folder = self.counted(opened)?;
+        match folder.try_lock() {
+            Ok(()) => {
+                self.folder = Some(folder);
+                Ok(())
+            }
+            Err(_) => {
+                self.faults = self.faults.saturating_add(1);
+                Err(Stop::Failed)
+            }
         }
     }
 
     fn open(&mut self, area: Area, name: &str) -> Result<AreaFile, Stop> {
-        match OpenOptions::new()
+        let opened = OpenOptions::new()
             .read(true)
             .write(true)
             .create(true)
-            .open(&self.rt, name)
-        {
-            Ok(file) => Ok(AreaFile { area, file }),
-            Err(why) => Err(stop(why)),
-        }
+            .open(&self.rt, name);
+        let file = self.counted(opened)?;
+        Ok(AreaFile { area, file })
     }
 
     fn sync_folder(&mut self, _file: &AreaFile) -> Result<(), Stop> {
-        self.folder.sync_all().map_err(stop)
+        let Some(folder) = &self.folder else {
+            unreachable!();
+        };
+        let synced = folder.sync_all();
+        self.counted(synced)
     }
 
     fn length(&mut self, file: &AreaFile) -> Result<u64, Stop> {
-        match file.file.metadata() {
-            Ok(found) => Ok(found.len()),
-            Err(why) => Err(stop(why)),
-        }
+        let found = file.file.metadata();
+        Ok(self.counted(found)?.len())
     }
 
     fn read_at(&mut self, file: &AreaFile, at: u64, into: &mut [u8]) -> Result<usize, Stop> {
-        file.file.read_at(into, at).map_err(stop)
+        let read = file.file.read_at(into, at);
+        self.counted_part(read, into.len())
     }
 
     fn write_at(&mut self, file: &AreaFile, at: u64, bytes: &[u8]) -> Result<usize, Stop> {
-        file.file.write_at(bytes, at).map_err(stop)
+        let written = file.file.write_at(bytes, at);
+        self.counted_part(written, bytes.len())
     }
 
     fn sync(&mut self, file: &AreaFile) -> Result<(), Stop> {
-        file.file.sync_all().map_err(stop)
+        let synced = file.file.sync_all();
+        self.counted(synced)
     }
 
     fn tell(&mut self, bytes: &[u8]) -> Result<usize, Stop> {
-        io::writer(&self.rt).write(bytes).map_err(stop)
+        let written = io::writer(&self.rt).write(bytes);
+        self.counted_part(written, bytes.len())
     }
 
-    ghost lawful = { λ _. blind_lawful };
+    ghost lawful = { λ m. lawful_counted m.faults blind blind_lawful };
 }
 
-/// Standard input. It tells no content.
+/// Standard input. It tells no content, and counts its faults.
 #[derive(Drop)]
 pub struct Script<R: Input + Drop> {
     rt: R,
+    faults: u64,
 }
 
 impl<R: Input + Drop> Script<R> {
     pub fn new(rt: R) -> Script<R> {
-        Script { rt }
+        Script { rt, faults: 0 }
     }
 }
 
@@ -117,8 +174,16 @@ impl<R: Input + Drop> Reader for Script<R> {
 
     ghost rest = { λ _. None };
 
+    ghost faults = { λ s. s.faults };
+
     fn read(&mut self, into: &mut [u8]) -> Result<usize, Stop> {
-        self.rt.reader().read(into).map_err(stop)
+        match self.rt.reader().read(into) {
+            Ok(count) => Ok(count),
+            Err(why) => {
+                self.faults = self.faults.saturating_add(1);
+                Err(stop(why))
+            }
+        }
     }
 }
 

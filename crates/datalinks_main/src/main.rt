@@ -28,11 +28,13 @@ fn given_words(rt: &HostRuntime) -> Result<Option<List<Text>>, Memory> {
 
 /// Does the command that the words name on the current folder.
 fn run(rt: HostRuntime, words: &[Text]) -> Status {
-    let Ok(machine) = Machine::open(rt) else {
-        return Status::Device;
-    };
     let mut source = InputSource::new(Script::new(rt));
-    let (end, _) = single(rt.alloc(), words, &mut source, FolderBench::new(machine));
+    let (end, _) = single(
+        rt.alloc(),
+        words,
+        &mut source,
+        FolderBench::new(Machine::new(rt)),
+    );
     end
 }
 

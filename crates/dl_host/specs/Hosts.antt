@@ -1,5 +1,5 @@
 -- What a run holds of its folder, and how its files are named.
-use Rattle.std.specs.Prelude.{◌≡◌, ℕ, ◌+◌, ◌-◌, ◌^◌, min, Bool, true, if◌then◌else◌, List, codes}
+use Rattle.std.specs.Prelude.{◌≡◌, ℕ, ◌+◌, ◌-◌, ◌^◌, ◌==◌, ◌&&◌, min, nat_lt, Bool, true, if◌then◌else◌, List, codes, Result, Ok, Err}
 use Rattle.dl_base.specs.declared.area.Area.{Area}
 use Rattle.dl_base.specs.declared.area.Area.TheVariants.{Rows, Links, Files, Archive, Backups}
 use Rattle.dl_base.specs.Outside.{Outside}
@@ -30,3 +30,8 @@ with_faults n o = record o { faults = n }
 -- a count of faults behind a call that failed, or not; it stands at its last value
 abbrev pub count_after : Bool → ℕ → ℕ
 count_after failed n = if failed then min (n + 1) (2 ^ 64 - 1) else n
+
+-- whether a call for so many bytes failed, or did none of them
+abbrev pub falls_short : {E : Type 0} → ℕ → Result ℕ E → Bool
+falls_short asked (Ok n) = (n == 0) && nat_lt 0 asked
+falls_short asked (Err e) = true

@@ -1,7 +1,7 @@
 // Calls that are made again until all is done.
-ghost use Rattle.std.specs.Prelude.{◌≡◌, ◌+◌, ◌≤◌, ◌^◌, true, List, ℕ, length, take, Some, IfOk, OnOk};
+ghost use Rattle.std.specs.Prelude.{◌≡◌, ◌⊎◌, ◌+◌, ◌≤◌, ◌<◌, ◌^◌, true, List, ℕ, length, take, Some, IfOk, OnOk, OnErr};
 ghost use Rattle.std.specs.Option.{ForSome};
-ghost use Rattle.dl_base.specs.Outside.{Touches, Says, Torn, overwritten, portion, extended};
+ghost use Rattle.dl_base.specs.Outside.{Touches, Says, Torn, overwritten, portion, extended, Rose};
 ghost use Rattle.dl_host.specs.Hosts.{Stays};
 
 use crate::names::file_name;
@@ -17,6 +17,7 @@ pub fn opened<H: Host>(host: &mut H, area: Area) -> Result<H::File, Failed>
     ensures same { (H.outside host.new).reads area ≡ (H.outside host.old).reads area }
     ensures crash { Touches area ((H.outside host.old).image area) (H.outside host.old) (H.outside host.new) }
     ensures stays { Stays (H.hold host.old) (H.hold host.new) }
+    ensures cause { OnErr result (Rose (H.outside host.old) (H.outside host.new)) }
 {
     match host.open(area, file_name(area)) {
         Ok(file) => match host.sync_folder(&file) {
@@ -35,9 +36,10 @@ pub fn write_all<H: Host>(host: &mut H, file: &H::File, at: u64, bytes: &[u8]) -
     ensures written { OnOk result ((H.outside host.new).reads (H.area_of file.now) ≡ overwritten at bytes.now ((H.outside host.old).reads (H.area_of file.now))) }
     ensures crash { Touches (H.area_of file.now) (Torn at (length bytes.now) ((H.outside host.old).image (H.area_of file.now))) (H.outside host.old) (H.outside host.new) }
     ensures stays { Stays (H.hold host.old) (H.hold host.new) }
+    ensures cause { OnErr result (Rose (H.outside host.old) (H.outside host.new)) }
 {
     let mut done: usize = 0;
-    'more: for _ in 0..u64::MAX {
+    'more: for _turn in 0..u64::MAX {
         if done >= bytes.len() {
             return Ok(());
         }
@@ -49,7 +51,8 @@ pub fn write_all<H: Host>(host: &mut H, file: &H::File, at: u64, bytes: &[u8]) -
     Err(Failed)
 }
 
-/// Fills the buffer: a call that read some is followed by one for the others, and an interrupted one by another.
+/// Fills the buffer: a call that read some is followed by one for the others, and an interrupted one by another. A byte
+/// whose place no number has is never read.
 pub fn read_all<H: Host>(
     host: &mut H,
     file: &H::File,
@@ -62,9 +65,10 @@ pub fn read_all<H: Host>(
     ensures same { (H.outside host.new).reads (H.area_of file.now) ≡ (H.outside host.old).reads (H.area_of file.now) }
     ensures crash { Touches (H.area_of file.now) ((H.outside host.old).image (H.area_of file.now)) (H.outside host.old) (H.outside host.new) }
     ensures stays { Stays (H.hold host.old) (H.hold host.new) }
+    ensures cause { OnErr result (Rose (H.outside host.old) (H.outside host.new) ⊎ 2 ^ 64 < at + length into.old) }
 {
     let mut done: usize = 0;
-    'more: for _ in 0..u64::MAX {
+    'more: for _turn in 0..u64::MAX {
         if done >= into.len() {
             return Ok(());
         }
@@ -85,9 +89,10 @@ pub fn tell_all<H: Host>(host: &mut H, bytes: &[u8]) -> Result<(), Failed>
     ensures told { OnOk result ((H.outside host.new).told ≡ extended bytes.now (H.outside host.old).told) }
     ensures crash { Says bytes.now (H.outside host.old) (H.outside host.new) }
     ensures stays { Stays (H.hold host.old) (H.hold host.new) }
+    ensures cause { OnErr result (Rose (H.outside host.old) (H.outside host.new)) }
 {
     let mut done: usize = 0;
-    'more: for _ in 0..u64::MAX {
+    'more: for _turn in 0..u64::MAX {
         if done >= bytes.len() {
             return Ok(());
         }
@@ -103,12 +108,15 @@ pub fn tell_all<H: Host>(host: &mut H, bytes: &[u8]) -> Result<(), Failed>
 #[tactic(auto, using(crate::proofs::Loops::written_none))]
 fn write_some<H: Host>(host: &mut H, file: &H::File, at: u64, bytes: &[u8]) -> Result<usize, Failed>
     requires locked { (H.hold host.old).has_lock ≡ true }
+    requires asked { 0 < length bytes.now }
     requires begins { ForSome ((H.outside host.old).reads (H.area_of file.now)) (λ old. at ≤ length old) }
     requires ends { at + length bytes.now ≤ 2 ^ 63 }
     ensures count { IfOk result (λ n. n ≤ length bytes.now) }
     ensures written { IfOk result (λ n. (H.outside host.new).reads (H.area_of file.now) ≡ overwritten at (take n bytes.now) ((H.outside host.old).reads (H.area_of file.now))) }
     ensures crash { Touches (H.area_of file.now) (Torn at (length bytes.now) ((H.outside host.old).image (H.area_of file.now))) (H.outside host.old) (H.outside host.new) }
     ensures stays { Stays (H.hold host.old) (H.hold host.new) }
+    ensures cause { OnErr result (Rose (H.outside host.old) (H.outside host.new)) }
+    ensures moves { IfOk result (λ n. n ≡ 0 → Rose (H.outside host.old) (H.outside host.new)) }
 {
     match host.write_at(file, at, bytes) {
         Ok(0) => Err(Failed),
@@ -126,11 +134,14 @@ fn read_some<H: Host>(
     into: &mut [u8],
 ) -> Result<usize, Failed>
     requires locked { (H.hold host.old).has_lock ≡ true }
+    requires asked { 0 < length into.old }
     ensures count { IfOk result (λ n. n ≤ length into.old) }
     ensures bytes { IfOk result (λ n. ForSome ((H.outside host.old).reads (H.area_of file.now)) (λ bytes. take n into.new ≡ portion at n bytes)) }
     ensures same { (H.outside host.new).reads (H.area_of file.now) ≡ (H.outside host.old).reads (H.area_of file.now) }
     ensures crash { Touches (H.area_of file.now) ((H.outside host.old).image (H.area_of file.now)) (H.outside host.old) (H.outside host.new) }
     ensures stays { Stays (H.hold host.old) (H.hold host.new) }
+    ensures cause { OnErr result (Rose (H.outside host.old) (H.outside host.new)) }
+    ensures moves { IfOk result (λ n. n ≡ 0 → Rose (H.outside host.old) (H.outside host.new)) }
 {
     match host.read_at(file, at, into) {
         Ok(0) => Err(Failed),
@@ -144,10 +155,13 @@ fn read_some<H: Host>(
 #[tactic(auto, using(crate::proofs::Loops::told_none))]
 fn tell_some<H: Host>(host: &mut H, bytes: &[u8]) -> Result<usize, Failed>
     requires locked { (H.hold host.old).has_lock ≡ true }
+    requires asked { 0 < length bytes.now }
     ensures count { IfOk result (λ n. n ≤ length bytes.now) }
     ensures told { IfOk result (λ n. (H.outside host.new).told ≡ extended (take n bytes.now) (H.outside host.old).told) }
     ensures crash { Says bytes.now (H.outside host.old) (H.outside host.new) }
     ensures stays { Stays (H.hold host.old) (H.hold host.new) }
+    ensures cause { OnErr result (Rose (H.outside host.old) (H.outside host.new)) }
+    ensures moves { IfOk result (λ n. n ≡ 0 → Rose (H.outside host.old) (H.outside host.new)) }
 {
     match host.tell(bytes) {
         Ok(0) => Err(Failed),
@@ -164,6 +178,7 @@ pub fn measured<H: Host>(host: &mut H, file: &H::File) -> Result<u64, Failed>
     ensures same { (H.outside host.new).reads (H.area_of file.now) ≡ (H.outside host.old).reads (H.area_of file.now) }
     ensures crash { Touches (H.area_of file.now) ((H.outside host.old).image (H.area_of file.now)) (H.outside host.old) (H.outside host.new) }
     ensures stays { Stays (H.hold host.old) (H.hold host.new) }
+    ensures cause { OnErr result (Rose (H.outside host.old) (H.outside host.new)) }
 {
     match host.length(file) {
         Ok(count) => Ok(count),
@@ -179,6 +194,7 @@ pub fn synced<H: Host>(host: &mut H, file: &H::File) -> Result<(), Failed>
     ensures same { (H.outside host.new).reads (H.area_of file.now) ≡ (H.outside host.old).reads (H.area_of file.now) }
     ensures crash { Touches (H.area_of file.now) ((H.outside host.old).image (H.area_of file.now)) (H.outside host.old) (H.outside host.new) }
     ensures stays { Stays (H.hold host.old) (H.hold host.new) }
+    ensures cause { OnErr result (Rose (H.outside host.old) (H.outside host.new)) }
 {
     match host.sync(file) {
         Ok(()) => Ok(()),

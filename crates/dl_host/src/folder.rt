@@ -1,5 +1,5 @@
 // The bench over the files of a folder.
-ghost use Rattle.std.specs.Prelude.{◌≡◌, ◌+◌, ◌≤◌, ◌^◌, [], true, false, is_err, IsSome, List as Items, ℕ, length, Some, None, IfOk, OnOk, OnErr};
+ghost use Rattle.std.specs.Prelude.{◌≡◌, ◌⊎◌, ◌+◌, ◌≤◌, ◌<◌, ◌^◌, [], true, false, is_err, IsSome, List as Items, ℕ, length, Some, None, IfOk, OnOk, OnErr};
 ghost use Rattle.std.specs.Option.{ForSome};
 ghost use Rattle.dl_base.specs.Outside.{Outside, Touches, Says, Torn, overwritten, portion, extended, Rose};
 ghost use Rattle.dl_host.specs.Hosts.{with_faults, count_after};
@@ -62,6 +62,7 @@ impl<H: Host + Drop> FolderBench<H> {
         ensures told { (H.outside self.new.host).told ≡ (H.outside self.old.host).told }
         ensures crash { Says [] (H.outside self.old.host) (H.outside self.new.host) }
         ensures count { self.new.faults ≡ self.old.faults }
+        ensures cause { OnErr result (Rose (H.outside self.old.host) (H.outside self.new.host)) }
     {
         if self.is_locked {
             return Ok(());
@@ -82,6 +83,7 @@ impl<H: Host + Drop> FolderBench<H> {
         ensures same { (H.outside self.new.host).reads area ≡ (H.outside self.old.host).reads area }
         ensures crash { Touches area ((H.outside self.old.host).image area) (H.outside self.old.host) (H.outside self.new.host) }
         ensures count { self.new.faults ≡ self.old.faults }
+        ensures cause { OnErr result (Rose (H.outside self.old.host) (H.outside self.new.host)) }
     {
         self.enter()?;
         if self.slots.at(area).is_some() {
@@ -97,6 +99,7 @@ impl<H: Host + Drop> FolderBench<H> {
         ensures same { (H.outside self.new.host).reads area ≡ (H.outside self.old.host).reads area }
         ensures crash { Touches area ((H.outside self.old.host).image area) (H.outside self.old.host) (H.outside self.new.host) }
         ensures count { self.new.faults ≡ self.old.faults }
+        ensures cause { OnErr result (Rose (H.outside self.old.host) (H.outside self.new.host)) }
     {
         self.open(area)?;
         match self.slots.at(area) {
@@ -111,6 +114,7 @@ impl<H: Host + Drop> FolderBench<H> {
         ensures same { (H.outside self.new.host).reads area ≡ (H.outside self.old.host).reads area }
         ensures crash { Touches area ((H.outside self.old.host).image area) (H.outside self.old.host) (H.outside self.new.host) }
         ensures count { self.new.faults ≡ self.old.faults }
+        ensures cause { OnErr result (Rose (H.outside self.old.host) (H.outside self.new.host) ⊎ 2 ^ 64 < at + length into.old) }
     {
         self.open(area)?;
         match self.slots.at(area) {
@@ -125,6 +129,7 @@ impl<H: Host + Drop> FolderBench<H> {
         ensures written { OnOk result ((H.outside self.new.host).reads area ≡ overwritten at bytes.now ((H.outside self.old.host).reads area)) }
         ensures crash { Touches area (Torn at (length bytes.now) ((H.outside self.old.host).image area)) (H.outside self.old.host) (H.outside self.new.host) }
         ensures count { self.new.faults ≡ self.old.faults }
+        ensures cause { OnErr result (Rose (H.outside self.old.host) (H.outside self.new.host)) }
     {
         self.open(area)?;
         match self.slots.at(area) {
@@ -138,6 +143,7 @@ impl<H: Host + Drop> FolderBench<H> {
         ensures same { (H.outside self.new.host).reads area ≡ (H.outside self.old.host).reads area }
         ensures crash { Touches area ((H.outside self.old.host).image area) (H.outside self.old.host) (H.outside self.new.host) }
         ensures count { self.new.faults ≡ self.old.faults }
+        ensures cause { OnErr result (Rose (H.outside self.old.host) (H.outside self.new.host)) }
     {
         self.open(area)?;
         match self.slots.at(area) {
@@ -150,6 +156,7 @@ impl<H: Host + Drop> FolderBench<H> {
         ensures told { OnOk result ((H.outside self.new.host).told ≡ extended bytes.now (H.outside self.old.host).told) }
         ensures crash { Says bytes.now (H.outside self.old.host) (H.outside self.new.host) }
         ensures count { self.new.faults ≡ self.old.faults }
+        ensures cause { OnErr result (Rose (H.outside self.old.host) (H.outside self.new.host)) }
     {
         self.enter()?;
         tell_all(&mut self.host, bytes)
@@ -167,6 +174,7 @@ impl<H: Host + Drop> Bench for FolderBench<H> {
         ensures crash { Touches area ((H.outside self.old.host).image area) (with_faults self.old.faults (H.outside self.old.host)) (with_faults self.new.faults (H.outside self.new.host)) }
         ensures cause { OnErr result (Rose (with_faults self.old.faults (H.outside self.old.host)) (with_faults self.new.faults (H.outside self.new.host))) }
         ensures exactly { self.new.faults ≡ count_after (is_err result) self.old.faults }
+        ensures by_host { OnErr result (Rose (H.outside self.old.host) (H.outside self.new.host)) }
     {
         let answer = self.length_of(area);
         self.counted(answer)
@@ -179,6 +187,7 @@ impl<H: Host + Drop> Bench for FolderBench<H> {
         ensures crash { Touches area ((H.outside self.old.host).image area) (with_faults self.old.faults (H.outside self.old.host)) (with_faults self.new.faults (H.outside self.new.host)) }
         ensures cause { OnErr result (Rose (with_faults self.old.faults (H.outside self.old.host)) (with_faults self.new.faults (H.outside self.new.host))) }
         ensures exactly { self.new.faults ≡ count_after (is_err result) self.old.faults }
+        ensures by_host { OnErr result (Rose (H.outside self.old.host) (H.outside self.new.host) ⊎ 2 ^ 64 < at + length into.old) }
     {
         let answer = self.read_from(area, at, into);
         self.counted(answer)
@@ -191,6 +200,7 @@ impl<H: Host + Drop> Bench for FolderBench<H> {
         ensures crash { Touches area (Torn at (length bytes.now) ((H.outside self.old.host).image area)) (with_faults self.old.faults (H.outside self.old.host)) (with_faults self.new.faults (H.outside self.new.host)) }
         ensures cause { OnErr result (Rose (with_faults self.old.faults (H.outside self.old.host)) (with_faults self.new.faults (H.outside self.new.host))) }
         ensures exactly { self.new.faults ≡ count_after (is_err result) self.old.faults }
+        ensures by_host { OnErr result (Rose (H.outside self.old.host) (H.outside self.new.host)) }
     {
         let answer = self.write_to(area, at, bytes);
         self.counted(answer)
@@ -202,6 +212,7 @@ impl<H: Host + Drop> Bench for FolderBench<H> {
         ensures crash { Touches area ((H.outside self.old.host).image area) (with_faults self.old.faults (H.outside self.old.host)) (with_faults self.new.faults (H.outside self.new.host)) }
         ensures cause { OnErr result (Rose (with_faults self.old.faults (H.outside self.old.host)) (with_faults self.new.faults (H.outside self.new.host))) }
         ensures exactly { self.new.faults ≡ count_after (is_err result) self.old.faults }
+        ensures by_host { OnErr result (Rose (H.outside self.old.host) (H.outside self.new.host)) }
     {
         let answer = self.sync_of(area);
         self.counted(answer)
@@ -212,6 +223,7 @@ impl<H: Host + Drop> Bench for FolderBench<H> {
         ensures crash { Says bytes.now (with_faults self.old.faults (H.outside self.old.host)) (with_faults self.new.faults (H.outside self.new.host)) }
         ensures cause { OnErr result (Rose (with_faults self.old.faults (H.outside self.old.host)) (with_faults self.new.faults (H.outside self.new.host))) }
         ensures exactly { self.new.faults ≡ count_after (is_err result) self.old.faults }
+        ensures by_host { OnErr result (Rose (H.outside self.old.host) (H.outside self.new.host)) }
     {
         let answer = self.tell(bytes);
         self.counted(answer)

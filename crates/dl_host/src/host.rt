@@ -1,10 +1,10 @@
 // What the areas and the script ask of the system, one call a method.
-ghost use Rattle.std.specs.Prelude.{◌≡◌, ◌+◌, ◌≤◌, ◌<◌, ◌^◌, Bool, true, List, ℕ, [], length, take, Option, Some, Err, IfOk, OnOk};
+ghost use Rattle.std.specs.Prelude.{◌≡◌, ◌+◌, ◌≤◌, ◌<◌, ◌^◌, Bool, true, List, ℕ, [], length, take, is_err, Option, Some, Err, IfOk, OnOk};
 ghost use Rattle.dl_base.specs.declared.area.Area.{Area};
 ghost use Rattle.std.specs.Option.{ForSome};
 ghost use Rattle.dl_base.specs.Outside.{Outside, Touches, Says, Torn, overwritten, portion, extended, IsLawful};
 ghost use Rattle.dl_base.specs.Sources.{Took};
-ghost use Rattle.dl_host.specs.Hosts.{Hold, Stays, name_of};
+ghost use Rattle.dl_host.specs.Hosts.{Hold, Stays, name_of, count_after, falls_short};
 
 use dl_base::Area;
 
@@ -23,7 +23,7 @@ pub trait Host {
     type File: Drop;
 
     /// What stands outside: what the files read, what was told, what a crash may leave, and the time. No file reads as
-    /// no bytes. The count of faults is not looked at.
+    /// no bytes. Its faults are the calls that failed or were interrupted, or did none of the bytes that were asked for.
     ghost outside: { Self → Outside };
 
     /// Whether the folder is locked for this run, and which files' names outlive a crash.
@@ -37,7 +37,8 @@ pub trait Host {
         ensures locked { OnOk result ((hold self.new).has_lock ≡ true) }
         ensures told { (outside self.new).told ≡ (outside self.old).told }
         ensures crash { Says [] (outside self.old) (outside self.new) }
-        ensures stays { Stays (hold self.old) (hold self.new) };
+        ensures stays { Stays (hold self.old) (hold self.new) }
+        ensures faults { (outside self.new).faults ≡ count_after (is_err result) (outside self.old).faults };
 
     /// Opens the file of an area, which has this name in the folder, and makes it where there is none.
     fn open(&mut self, area: Area, name: &str) -> Result<Self::File, Stop>
@@ -46,7 +47,8 @@ pub trait Host {
         ensures opened { IfOk result (λ file. area_of file ≡ area) }
         ensures same { (outside self.new).reads area ≡ (outside self.old).reads area }
         ensures crash { Touches area ((outside self.old).image area) (outside self.old) (outside self.new) }
-        ensures stays { Stays (hold self.old) (hold self.new) };
+        ensures stays { Stays (hold self.old) (hold self.new) }
+        ensures faults { (outside self.new).faults ≡ count_after (is_err result) (outside self.old).faults };
 
     /// Syncs the folder, after which the file's name outlives a crash.
     fn sync_folder(&mut self, file: &Self::File) -> Result<(), Stop>
@@ -54,7 +56,8 @@ pub trait Host {
         ensures named { OnOk result ((hold self.new).is_named (area_of file.now) ≡ true) }
         ensures same { (outside self.new).reads (area_of file.now) ≡ (outside self.old).reads (area_of file.now) }
         ensures crash { Touches (area_of file.now) ((outside self.old).image (area_of file.now)) (outside self.old) (outside self.new) }
-        ensures stays { Stays (hold self.old) (hold self.new) };
+        ensures stays { Stays (hold self.old) (hold self.new) }
+        ensures faults { (outside self.new).faults ≡ count_after (is_err result) (outside self.old).faults };
 
     /// How many bytes the file has.
     fn length(&mut self, file: &Self::File) -> Result<u64, Stop>
@@ -62,7 +65,8 @@ pub trait Host {
         ensures value { IfOk result (λ n. ForSome ((outside self.old).reads (area_of file.now)) (λ bytes. n ≡ length bytes)) }
         ensures same { (outside self.new).reads (area_of file.now) ≡ (outside self.old).reads (area_of file.now) }
         ensures crash { Touches (area_of file.now) ((outside self.old).image (area_of file.now)) (outside self.old) (outside self.new) }
-        ensures stays { Stays (hold self.old) (hold self.new) };
+        ensures stays { Stays (hold self.old) (hold self.new) }
+        ensures faults { (outside self.new).faults ≡ count_after (is_err result) (outside self.old).faults };
 
     /// Reads bytes from there on into the front of the buffer, and says how many; maybe fewer than there are.
     fn read_at(&mut self, file: &Self::File, at: u64, into: &mut [u8]) -> Result<usize, Stop>
@@ -71,7 +75,8 @@ pub trait Host {
         ensures bytes { IfOk result (λ n. ForSome ((outside self.old).reads (area_of file.now)) (λ bytes. take n into.new ≡ portion at n bytes)) }
         ensures same { (outside self.new).reads (area_of file.now) ≡ (outside self.old).reads (area_of file.now) }
         ensures crash { Touches (area_of file.now) ((outside self.old).image (area_of file.now)) (outside self.old) (outside self.new) }
-        ensures stays { Stays (hold self.old) (hold self.new) };
+        ensures stays { Stays (hold self.old) (hold self.new) }
+        ensures faults { (outside self.new).faults ≡ count_after (falls_short (length into.old) result) (outside self.old).faults };
 
     /// Writes the first of these bytes over what is there, and past the end, and says how many. Until a sync, a crash may
     /// leave any bytes in the range.
@@ -83,7 +88,8 @@ pub trait Host {
         ensures written { IfOk result (λ n. (outside self.new).reads (area_of file.now) ≡ overwritten at (take n bytes.now) ((outside self.old).reads (area_of file.now))) }
         ensures again { result ≡ Err Stop.Interrupted → (outside self.new).reads (area_of file.now) ≡ (outside self.old).reads (area_of file.now) }
         ensures crash { Touches (area_of file.now) (Torn at (length bytes.now) ((outside self.old).image (area_of file.now))) (outside self.old) (outside self.new) }
-        ensures stays { Stays (hold self.old) (hold self.new) };
+        ensures stays { Stays (hold self.old) (hold self.new) }
+        ensures faults { (outside self.new).faults ≡ count_after (falls_short (length bytes.now) result) (outside self.old).faults };
 
     /// After it, a crash leaves what a read gives, where the file's name outlives a crash.
     fn sync(&mut self, file: &Self::File) -> Result<(), Stop>
@@ -92,7 +98,8 @@ pub trait Host {
             → (c : List ℕ) → (outside self.new).image (area_of file.now) c → (outside self.old).reads (area_of file.now) ≡ Some c) }
         ensures same { (outside self.new).reads (area_of file.now) ≡ (outside self.old).reads (area_of file.now) }
         ensures crash { Touches (area_of file.now) ((outside self.old).image (area_of file.now)) (outside self.old) (outside self.new) }
-        ensures stays { Stays (hold self.old) (hold self.new) };
+        ensures stays { Stays (hold self.old) (hold self.new) }
+        ensures faults { (outside self.new).faults ≡ count_after (is_err result) (outside self.old).faults };
 
     /// Writes the first of these bytes to standard output, and says how many. At `Failed` some front of them was told.
     fn tell(&mut self, bytes: &[u8]) -> Result<usize, Stop>
@@ -101,7 +108,8 @@ pub trait Host {
         ensures told { IfOk result (λ n. (outside self.new).told ≡ extended (take n bytes.now) (outside self.old).told) }
         ensures again { result ≡ Err Stop.Interrupted → (outside self.new).told ≡ (outside self.old).told }
         ensures crash { Says bytes.now (outside self.old) (outside self.new) }
-        ensures stays { Stays (hold self.old) (hold self.new) };
+        ensures stays { Stays (hold self.old) (hold self.new) }
+        ensures faults { (outside self.new).faults ≡ count_after (falls_short (length bytes.now) result) (outside self.old).faults };
 
     /// The system keeps the laws of a device.
     ghost lawful: { (host : Self) → IsLawful (outside host) };
@@ -112,11 +120,15 @@ pub trait Reader {
     /// The bytes left, where it tells them.
     ghost rest: { Self → Option (List ℕ) };
 
+    /// How many calls failed or were interrupted.
+    ghost faults: { Self → ℕ };
+
     /// Reads the next bytes into the front of the buffer, and says how many.
     /// At a buffer that has room it reads none only at the end.
     fn read(&mut self, into: &mut [u8]) -> Result<usize, Stop>
         ensures count { IfOk result (λ n. n ≤ length into.old) }
         ensures bytes { IfOk result (λ n. Took (take n into.new) (rest self.old) (rest self.new)) }
         ensures end { IfOk result (λ n. n ≡ 0 → 0 < length into.old → (left : List ℕ) → rest self.old ≡ Some left → left ≡ []) }
-        ensures again { result ≡ Err Stop.Interrupted → rest self.new ≡ rest self.old };
+        ensures again { result ≡ Err Stop.Interrupted → rest self.new ≡ rest self.old }
+        ensures faults { faults self.new ≡ count_after (is_err result) (faults self.old) };
 }

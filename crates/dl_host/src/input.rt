@@ -33,6 +33,7 @@ impl<R: Reader + Drop> Source for InputSource<R> {
         ensures never_falls { self.old.faults ≤ self.new.faults }
         ensures cause { OnErr result (RoseFrom self.old.faults self.new.faults) }
         ensures exactly { self.new.faults ≡ count_after (is_err result) self.old.faults }
+        ensures by_reader { OnErr result (RoseFrom (R.faults self.old.reader) (R.faults self.new.reader)) }
     {
         let answer = read(&mut self.reader, into);
         if answer.is_err() {
@@ -47,8 +48,9 @@ fn read<R: Reader>(reader: &mut R, into: &mut [u8]) -> Result<usize, Failed>
     ensures count { IfOk result (λ n. n ≤ length into.old) }
     ensures bytes { IfOk result (λ n. Took (take n into.new) (R.rest reader.old) (R.rest reader.new)) }
     ensures end { IfOk result (λ n. n ≡ 0 → 0 < length into.old → (left : List ℕ) → R.rest reader.old ≡ Some left → left ≡ []) }
+    ensures cause { OnErr result (RoseFrom (R.faults reader.old) (R.faults reader.new)) }
 {
-    'more: for _ in 0..u64::MAX {
+    'more: for _turn in 0..u64::MAX {
         match reader.read(into) {
             Ok(count) => return Ok(count),
             Err(Stop::Interrupted) => {}

@@ -1,11 +1,10 @@
-// The machine stopped after each of its calls, and every call failing once: what is found then.
-use crate::runs::ended;
+// The machine stopped after each of its calls, and every call failing once: what is found then. In helpers the outer
+// `None` is want of memory.
+use crate::runs::{bench_of, done, first_record, numbers};
 use datalinks::Status;
-use dl_base::{Area, List, Memory};
-use dl_bench::{Call, MemoryBench, MemorySource, Pick};
+use dl_base::{Area, List};
+use dl_bench::{Call, MemoryBench, Pick};
 use std::alloc::Global;
-use std::process::Abort;
-use std::test::*;
 
 fn script() -> &'static [u8] {
     b"@ann create /a one\n@ann read /a\n@ann create /a x\n@bob delete /a\n@ann delete /a\n@ann read /a\n"
@@ -28,36 +27,22 @@ const FUSES: u64 = 24;
 /// More calls than a reopening makes.
 const REOPENING: u64 = 10;
 
-/// The area Files after the first line.
-fn one_record() -> &'static [u8] {
-    b"\x01\0\0\0\0\0\0\0\x24\x01\0\0\0\0\0\0\0\0\0\0\0\x01\x01\0\0\0\x02/a\0\0\0\x03ann\x01\0\0\0\0\x03one\0"
-}
-
-/// A run of a script on these Files, where the listed call fails, and each call after as many as the fuse says.
-fn run(
-    alloc: Global,
-    files: &[u8],
-    script: &[u8],
-    failing: Option<(Call, u64)>,
-    fuse: Option<u64>,
-) -> Result<(Status, MemoryBench), Memory> {
-    let mut source = MemorySource::new(alloc, script, None)?;
-    let mut list = List::empty(alloc);
-    if let Some(call) = failing {
-        list.push(call)?;
+/// Whether the file `/a` is there, by what a run that ended well told of it; `None` where it did not, or told another text.
+fn tells_file(status: Status, told: &[u8]) -> Option<bool> {
+    if status == Status::Done && told == b"1: bytes 3\n1| one\n".as_slice() {
+        return Some(true);
     }
-    let mut bench = MemoryBench::new(alloc, list, fuse)?;
-    bench.put(Area::Files, files)?;
-    ended(alloc, b"run", &mut source, bench)
+    if status == Status::Done && told == b"1: refused no file /a\n".as_slice() {
+        return Some(false);
+    }
+    None
 }
 
-/// Whether the file `/a` is found, by a run that must end well.
-fn finds_file(rt: &impl Abort, alloc: Global, files: &[u8]) -> Result<bool, Memory> {
-    let (status, after) = run(alloc, files, b"@ann read /a", None, None)?;
-    assert_eq!(rt; status, Status::Done);
-    let there = after.told() == b"1: bytes 3\n1| one\n".as_slice();
-    assert!(rt; there || after.told() == b"1: refused no file /a\n".as_slice());
-    Ok(there)
+/// The same of a run on these Files.
+fn finds_file(alloc: Global, files: &[u8]) -> Option<bool> {
+    let bench = bench_of(alloc, files, None, None)?;
+    let (status, after) = done(alloc, b"run", b"@ann read /a", bench)?;
+    tells_file(status, after.told())
 }
 
 /// Whether what was found goes with how much was told: what was told never runs ahead.
@@ -69,98 +54,119 @@ fn goes_with(there: bool, told: usize) -> bool {
     }
 }
 
-/// A run that stopped: its end, what it told, and what is found after a crash of it, which goes with each other.
-fn found_after(
-    rt: &impl Abort,
-    stopped: (Status, MemoryBench),
-    pick: Pick,
+/// How many bytes a run told, where it ended well or with a fault of the device, and told a front of the text; at a good
+/// end all of it.
+fn told_front(end: &(Status, MemoryBench)) -> Option<usize> {
+    let told = end.1.told();
+    let is_end = end.0 == Status::Device || (end.0 == Status::Done && told.len() == text().len());
+    if is_end && text().starts_with(told) {
+        return Some(told.len());
+    }
+    None
+}
+
+/// What a crash of a run of the script leaves of Files, how it ended, and how much it told.
+fn crashed(
     alloc: Global,
-) -> Result<MemoryBench, Memory> {
-    let (status, bench) = stopped;
-    let told = bench.told().len();
-    assert!(rt; text().starts_with(bench.told()));
-    assert!(rt; status == Status::Device || (status == Status::Done && told == text().len()));
-    let after = bench.crash(pick)?;
-    let there = finds_file(rt, alloc, after.area(Area::Files))?;
-    assert!(rt; goes_with(there, told));
-    Ok(after)
+    failing: Option<(Call, u64)>,
+    fuse: Option<u64>,
+    pick: Pick,
+) -> Option<(bool, usize, MemoryBench)> {
+    let bench = bench_of(alloc, b"", failing, fuse)?;
+    let end = done(alloc, b"run", script(), bench)?;
+    let told = told_front(&end)?;
+    let is_done = end.0 == Status::Done;
+    let after = end.1.crash(pick).ok()?;
+    Some((is_done, told, after))
 }
 
-/// Stops a reopening after each of its calls, and finds the same.
-fn reopens(rt: &impl Abort, alloc: Global, files: &[u8]) -> Result<(), Memory> {
-    let there = finds_file(rt, alloc, files)?;
-    for fuse in 0..REOPENING {
-        for pick in [Pick::Kept, Pick::Lost, Pick::Torn] {
-            let (_, bench) = run(alloc, files, b"@ann read /a", None, Some(fuse))?;
-            let after = bench.crash(pick)?;
-            assert_eq!(rt; finds_file(rt, alloc, after.area(Area::Files))?, there);
-        }
+/// Whether a reopening of these Files that is stopped by the fuse leaves the file there.
+fn reopened(alloc: Global, files: &[u8], fuse: u64, pick: Pick) -> Option<bool> {
+    let bench = bench_of(alloc, files, None, Some(fuse))?;
+    let (_, stopped) = done(alloc, b"run", b"@ann read /a", bench)?;
+    let after = stopped.crash(pick).ok()?;
+    finds_file(alloc, after.area(Area::Files))
+}
+
+fn picks() -> [Pick; 3] {
+    [Pick::Kept, Pick::Lost, Pick::Torn]
+}
+
+/// Whether a reopening leaves what is there, after whichever of its calls it stops.
+fn reopens(alloc: Global, files: &[u8], there: bool) -> bool {
+    (0..REOPENING).all(|fuse| {
+        picks()
+            .iter()
+            .all(|pick| reopened(alloc, files, fuse, *pick) == Some(there))
+    })
+}
+
+/// Whether a run that the fuse stops ends well, where what is found after a crash goes with what it told, and a reopening
+/// leaves it; `None` where not.
+fn stops(alloc: Global, fuse: u64, pick: Pick) -> Option<bool> {
+    let (is_done, told, after) = crashed(alloc, None, Some(fuse), pick)?;
+    let files = after.area(Area::Files);
+    let there = finds_file(alloc, files)?;
+    if goes_with(there, told) && reopens(alloc, files, there) {
+        return Some(is_done);
     }
-    Ok(())
+    None
 }
 
 #[test]
-fn a_stop_after_each_call(rt: HostRuntime) -> Result<(), Memory> {
-    let alloc = rt.alloc();
+fn a_stop_after_each_call(rt: HostRuntime) {
     for fuse in 0..FUSES {
-        for pick in [Pick::Kept, Pick::Lost, Pick::Torn] {
-            let stopped = run(alloc, b"", script(), None, Some(fuse))?;
-            assert_eq!(rt; stopped.0 == Status::Done, fuse == FUSES - 1);
-            let after = found_after(&rt, stopped, pick, alloc)?;
-            reopens(&rt, alloc, after.area(Area::Files))?;
+        for pick in picks() {
+            let is_done = stops(rt.alloc(), fuse, pick);
+            assert_eq!(rt; is_done, Some(fuse == FUSES - 1), "fuse {fuse}");
         }
     }
-    Ok(())
+}
+
+/// Whether what is found after a crash of a run, of which this call failed, goes with what it told.
+fn fails(alloc: Global, call: (Call, u64), pick: Pick) -> Option<bool> {
+    let (_, told, after) = crashed(alloc, Some(call), None, pick)?;
+    let there = finds_file(alloc, after.area(Area::Files))?;
+    Some(goes_with(there, told))
 }
 
 #[test]
-fn each_call_failing_once(rt: HostRuntime) -> Result<(), Memory> {
-    let alloc = rt.alloc();
+fn each_call_failing_once(rt: HostRuntime) {
     for kind in [Call::Length, Call::Read, Call::Write, Call::Sync, Call::Say] {
         for n in 1..FUSES {
-            for pick in [Pick::Kept, Pick::Lost, Pick::Torn] {
-                let stopped = run(alloc, b"", script(), Some((kind, n)), None)?;
-                let _ = found_after(&rt, stopped, pick, alloc)?;
+            for pick in picks() {
+                assert_eq!(rt; fails(rt.alloc(), (kind, n), pick), Some(true), "call {n}");
             }
         }
     }
-    Ok(())
 }
 
-#[test]
-fn a_source_that_fails(rt: HostRuntime) -> Result<(), Memory> {
-    let alloc = rt.alloc();
-    for n in 1..3 {
-        let mut source = MemorySource::new(alloc, script(), Some(n))?;
-        let bench = MemoryBench::new(alloc, List::empty(alloc), None)?;
-        let (status, after) = ended(alloc, b"run", &mut source, bench)?;
-        assert_eq!(rt; status, Status::Source);
-        assert_eq!(rt; after.area(Area::Files).len() + after.told().len(), 0);
+/// The exit status of a run on these Files, which are a store or end at no record from byte 0, and stay as they are.
+fn opens(alloc: Global, files: &[u8]) -> Option<u8> {
+    let bench = bench_of(alloc, files, None, None)?;
+    let (status, after) = done(alloc, b"run", b"", bench)?;
+    if after.area(Area::Files) != files && status != Status::Done {
+        return None;
     }
-    Ok(())
-}
-
-/// How a run on these Files ends: whether well, or that they are none.
-fn opens(rt: &impl Abort, alloc: Global, files: &[u8]) -> Result<bool, Memory> {
-    let (status, after) = run(alloc, files, b"", None, None)?;
-    if status != Status::Done {
-        assert_eq!(rt; status, Status::NotAStore(Area::Files, 0));
-        assert_eq!(rt; after.area(Area::Files), files);
+    match numbers(status) {
+        (code, 0) => Some(code),
+        _ => None,
     }
-    Ok(status == Status::Done)
 }
 
-/// The first record with one byte inverted, or the bytes before it alone.
-fn damaged(alloc: Global, at: usize, cut: bool) -> Result<List<u8>, Memory> {
+/// The first record with one byte inverted.
+fn inverted(alloc: Global, at: usize) -> Option<List<u8>> {
     let mut bytes = List::empty(alloc);
-    for (i, byte) in one_record().iter().enumerate() {
-        if i < at || (!cut && i > at) {
-            bytes.push(*byte)?;
-        } else if !cut {
-            bytes.push(!*byte)?;
-        }
+    for (i, byte) in first_record().iter().enumerate() {
+        let kept = if i == at { !*byte } else { *byte };
+        bytes.push(kept).ok()?;
     }
-    Ok(bytes)
+    Some(bytes)
+}
+
+fn opens_inverted(alloc: Global, at: usize) -> Option<u8> {
+    let bytes = inverted(alloc, at)?;
+    opens(alloc, bytes.as_slice())
 }
 
 /// Only the first gate, which then is closed, the transaction, the content and the closing gate may be any bytes.
@@ -168,35 +174,41 @@ fn may_be_any(at: usize) -> bool {
     at == 0 || (at >= 10 && at < 18) || at >= 42
 }
 
+fn code_where(is_store: bool) -> u8 {
+    if is_store { 0 } else { 5 }
+}
+
 #[test]
-fn damaged_files(rt: HostRuntime) -> Result<(), Memory> {
-    let alloc = rt.alloc();
-    for at in 0..one_record().len() {
-        let short = damaged(alloc, at, true)?;
-        assert_eq!(rt; opens(&rt, alloc, short.as_slice())?, at < 2, "{at} bytes");
-        let inverted = damaged(alloc, at, false)?;
-        assert_eq!(rt;
-            opens(&rt, alloc, inverted.as_slice())?,
-            may_be_any(at),
-            "byte {at}"
-        );
+fn damaged_files(rt: HostRuntime) {
+    let record = first_record();
+    for at in 0..record.len() {
+        let short = opens(rt.alloc(), &record[..at]);
+        assert_eq!(rt; short, Some(code_where(at < 2)), "{at} bytes");
+        let inverted = opens_inverted(rt.alloc(), at);
+        assert_eq!(rt; inverted, Some(code_where(may_be_any(at))), "byte {at}");
     }
-    Ok(())
 }
 
 /// One newline more than a script may have.
-#[test]
-fn a_script_that_is_too_long(rt: HostRuntime) -> Result<(), Memory> {
-    let alloc = rt.alloc();
+fn many_lines(alloc: Global) -> Option<List<u8>> {
     let mut lines = List::empty(alloc);
     let chunk = [b'\n'; 4_096];
     for _ in 0..16_384 {
-        lines.extend(&chunk)?;
+        lines.extend(&chunk).ok()?;
     }
-    lines.push(b'\n')?;
-    let (status, after) = run(alloc, one_record(), lines.as_slice(), None, None)?;
-    assert_eq!(rt; status, Status::TooLong(67_108_865));
-    assert_eq!(rt; status.code(), 7);
-    assert_eq!(rt; after.area(Area::Files), one_record());
-    Ok(())
+    lines.push(b'\n').ok()?;
+    Some(lines)
+}
+
+/// The numbers of a run's end on that script, and whether the Files stay.
+fn too_long(alloc: Global) -> Option<((u8, u64), bool)> {
+    let lines = many_lines(alloc)?;
+    let bench = bench_of(alloc, first_record(), None, None)?;
+    let (status, after) = done(alloc, b"run", lines.as_slice(), bench)?;
+    Some((numbers(status), after.area(Area::Files) == first_record()))
+}
+
+#[test]
+fn a_script_that_is_too_long(rt: HostRuntime) {
+    assert_eq!(rt; too_long(rt.alloc()), Some(((7, 67_108_865), true)));
 }

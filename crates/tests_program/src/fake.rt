@@ -1,42 +1,45 @@
-// A host in memory that gives what a system may give: short calls, interrupted ones, failing ones, no more room.
-ghost use Rattle.dl_host.specs.Blind.{blind, any_hold};
-ghost use Rattle.dl_host.specs.Laws.{blind_lawful};
+//! A folder and a stream in memory, which tell their content, and give what a system may give: short calls, interrupted
+//! ones, failing ones, no more room. They show that the clauses of `Host` and `Reader` can be met with content.
+ghost use Rattle.std.specs.Prelude.{◌≡◌, ◌==◌, ◌&&◌, ◌≤◌, nat_lt, true, is_err, Err};
+ghost use Rattle.dl_host.specs.Hosts.{with_faults, count_after};
+ghost use Rattle.dl_host.specs.Laws.{lawful_counted};
+ghost use Rattle.dl_bench.specs.Tallies.{faults};
+ghost use Rattle.dl_bench.specs.Traces.{seen};
+ghost use Rattle.dl_bench.specs.Laws.{lawful};
 
-use dl_base::Area;
+use dl_base::{Area, Bench, Failed, List, Memory};
+use dl_bench::MemoryBench;
 use dl_host::{Host, Reader, Stop};
 use std::alloc::Global;
 
-/// One file, and what was told. Each call is noted by its letter.
+/// Which calls fall short, and those that were made, each by its letter.
 #[derive(Drop)]
-pub struct FakeHost {
-    pub bytes: Vec<u8>,
-    pub told: Vec<u8>,
+pub struct Plan {
     pub calls: Vec<u8>,
     /// A call reads, writes or tells no more bytes than this.
     pub most: usize,
-    /// The file has no room for more bytes than this.
+    /// A file has no room for more bytes than this.
     pub room: usize,
     /// Calls of this letter fail.
     pub failing: u8,
     /// Each read, write and tell is interrupted once.
     pub interrupts: bool,
-    pub interrupted: bool,
+    interrupted: bool,
 }
 
-pub fn fake(alloc: Global) -> FakeHost {
-    FakeHost {
-        bytes: Vec::new(alloc),
-        told: Vec::new(alloc),
-        calls: Vec::new(alloc),
-        most: 1_000,
-        room: 1_000,
-        failing: 0,
-        interrupts: false,
-        interrupted: false,
+impl Plan {
+    /// Every call does what it can.
+    pub fn new(alloc: Global) -> Plan {
+        Plan {
+            calls: Vec::new(alloc),
+            most: 1_000,
+            room: 1_000,
+            failing: 0,
+            interrupts: false,
+            interrupted: false,
+        }
     }
-}
 
-impl FakeHost {
     fn note(&mut self, letter: u8) -> Result<(), Stop> {
         if self.calls.push(letter).is_err() || self.failing == letter {
             return Err(Stop::Failed);
@@ -52,109 +55,235 @@ impl FakeHost {
         }
         Ok(())
     }
+}
 
-    fn write(&mut self, at: usize, bytes: &[u8]) -> usize {
-        let mut count = 0;
-        for byte in bytes {
-            let place = at.saturating_add(count);
-            if place < self.bytes.len() {
-                self.bytes[place] = *byte;
-            } else if place >= self.room || self.bytes.push(*byte).is_err() {
-                break;
-            }
-            count += 1;
+/// The files of a folder, and what was told.
+#[derive(Drop)]
+pub struct FakeHost {
+    bench: MemoryBench,
+    plan: Plan,
+    is_locked: bool,
+    is_named: bool,
+    faults: u64,
+}
+
+impl FakeHost {
+    /// A folder with no files.
+    pub fn new(alloc: Global, plan: Plan) -> Result<FakeHost, Memory> {
+        Ok(FakeHost {
+            bench: MemoryBench::new(alloc, List::empty(alloc), None)?,
+            plan,
+            is_locked: false,
+            is_named: false,
+            faults: 0,
+        })
+    }
+
+    /// The bytes that the area's file has.
+    pub fn file(&self, area: Area) -> &[u8] {
+        self.bench.area(area)
+    }
+
+    /// All that was told.
+    pub fn told(&self) -> &[u8] {
+        self.bench.told()
+    }
+
+    /// The letters of the calls, in their order: l(ock), o(pen), d (the folder is synced), n (length), r(ead), w(rite),
+    /// s(ync), t(ell).
+    pub fn calls(&self) -> &[u8] {
+        &self.plan.calls
+    }
+
+    /// Begins a call. One that fails is counted.
+    fn begin(&mut self, letter: u8) -> Result<(), Stop>
+        ensures bench { self.new.bench ≡ self.old.bench }
+        ensures lock { self.new.is_locked ≡ self.old.is_locked }
+        ensures names { self.new.is_named ≡ self.old.is_named }
+        ensures faults { self.new.faults ≡ count_after (is_err result) self.old.faults }
+        ensures later { self.old.faults ≤ self.new.faults }
+    {
+        let begun = self.plan.note(letter);
+        if begun.is_err() {
+            self.faults = self.faults.saturating_add(1);
         }
-        count
+        begun
+    }
+
+    /// The same of a call that may be interrupted.
+    fn begin_part(&mut self, letter: u8) -> Result<(), Stop>
+        ensures bench { self.new.bench ≡ self.old.bench }
+        ensures lock { self.new.is_locked ≡ self.old.is_locked }
+        ensures names { self.new.is_named ≡ self.old.is_named }
+        ensures faults { self.new.faults ≡ count_after (is_err result) self.old.faults }
+        ensures later { self.old.faults ≤ self.new.faults }
+    {
+        let begun = self.plan.note_part(letter);
+        if begun.is_err() {
+            self.faults = self.faults.saturating_add(1);
+        }
+        begun
+    }
+
+    /// Ends a call that did so many bytes of those that were asked for. One that did none is counted.
+    fn end_part(&mut self, count: usize, asked: usize)
+        ensures bench { self.new.bench ≡ self.old.bench }
+        ensures lock { self.new.is_locked ≡ self.old.is_locked }
+        ensures names { self.new.is_named ≡ self.old.is_named }
+        ensures faults { self.new.faults ≡ count_after ((count == 0) && nat_lt 0 asked) self.old.faults }
+        ensures later { self.old.faults ≤ self.new.faults }
+    {
+        if count == 0 && asked > 0 {
+            self.faults = self.faults.saturating_add(1);
+        }
+    }
+
+    /// Ends a call that found no memory.
+    fn failed(&mut self) -> Stop
+        ensures value { result ≡ Stop.Failed }
+        ensures bench { self.new.bench ≡ self.old.bench }
+        ensures lock { self.new.is_locked ≡ self.old.is_locked }
+        ensures names { self.new.is_named ≡ self.old.is_named }
+        ensures faults { self.new.faults ≡ count_after true self.old.faults }
+        ensures later { self.old.faults ≤ self.new.faults }
+    {
+        self.faults = self.faults.saturating_add(1);
+        Stop::Failed
     }
 }
 
 impl Host for FakeHost {
     type File = Area;
 
-    ghost outside = { λ _. blind };
+    ghost outside = { λ h. with_faults h.faults (seen h.bench) };
 
-    ghost hold = { λ _. any_hold };
+    ghost hold = { λ h. record { has_lock = h.is_locked; is_named = λ a. h.is_named } };
 
     ghost area_of = { λ a. a };
 
     fn lock(&mut self) -> Result<(), Stop> {
-        self.note(b'l')
+        self.begin(b'l')?;
+        self.is_locked = true;
+        Ok(())
     }
 
     fn open(&mut self, area: Area, _name: &str) -> Result<Area, Stop> {
-        self.note(b'o')?;
+        self.begin(b'o')?;
         Ok(area)
     }
 
     fn sync_folder(&mut self, _file: &Area) -> Result<(), Stop> {
-        self.note(b'd')
+        self.begin(b'd')?;
+        self.is_named = true;
+        Ok(())
     }
 
-    fn length(&mut self, _file: &Area) -> Result<u64, Stop> {
-        self.note(b'n')?;
-        Ok(self.bytes.len() as u64)
+    fn length(&mut self, file: &Area) -> Result<u64, Stop> {
+        self.begin(b'n')?;
+        Ok(self.bench.area(*file).len() as u64)
     }
 
-    fn read_at(&mut self, _file: &Area, at: u64, into: &mut [u8]) -> Result<usize, Stop> {
-        self.note_part(b'r')?;
-        let at = (at as usize).min(self.bytes.len());
-        let count = self.most.min(into.len()).min(self.bytes.len() - at);
-        into[..count].copy_from_slice(&self.bytes[at..at + count]);
+    fn read_at(&mut self, file: &Area, at: u64, into: &mut [u8]) -> Result<usize, Stop> {
+        self.begin_part(b'r')?;
+        let kept = self.bench.area(*file);
+        let from = (at as usize).min(kept.len());
+        let count = self.plan.most.min(into.len()).min(kept.len() - from);
+        into[..count].copy_from_slice(&kept[from..from + count]);
+        self.end_part(count, into.len());
         Ok(count)
     }
 
-    fn write_at(&mut self, _file: &Area, at: u64, bytes: &[u8]) -> Result<usize, Stop> {
-        self.note_part(b'w')?;
-        let count = self.most.min(bytes.len());
-        Ok(self.write(at as usize, &bytes[..count]).min(bytes.len()))
-    }
-
-    fn sync(&mut self, _file: &Area) -> Result<(), Stop> {
-        self.note(b's')
-    }
-
-    fn tell(&mut self, bytes: &[u8]) -> Result<usize, Stop> {
-        self.note_part(b't')?;
-        let count = self.most.min(bytes.len());
-        match self.told.extend_from_slice(&bytes[..count]) {
-            Ok(()) => Ok(count),
-            Err(_) => Err(Stop::Failed),
+    fn write_at(&mut self, file: &Area, at: u64, bytes: &[u8]) -> Result<usize, Stop> {
+        self.begin_part(b'w')?;
+        let room = self.plan.room.saturating_sub(at as usize);
+        let count = self.plan.most.min(room).min(bytes.len());
+        match self.bench.write(*file, at, &bytes[..count]) {
+            Ok(()) => {
+                self.end_part(count, bytes.len());
+                Ok(count)
+            }
+            Err(Failed) => Err(self.failed()),
         }
     }
 
-    ghost lawful = { λ _. blind_lawful };
+    fn sync(&mut self, file: &Area) -> Result<(), Stop> {
+        self.begin(b's')?;
+        match self.bench.sync(*file) {
+            Ok(()) => Ok(()),
+            Err(Failed) => Err(self.failed()),
+        }
+    }
+
+    fn tell(&mut self, bytes: &[u8]) -> Result<usize, Stop> {
+        self.begin_part(b't')?;
+        let count = self.plan.most.min(bytes.len());
+        match self.bench.say(&bytes[..count]) {
+            Ok(()) => {
+                self.end_part(count, bytes.len());
+                Ok(count)
+            }
+            Err(Failed) => Err(self.failed()),
+        }
+    }
+
+    ghost lawful = { λ h. lawful_counted h.faults (seen h.bench) (lawful h.bench.events (faults h.bench.tally)) };
 }
 
 /// Bytes that come one at a time, each behind an interrupted call, and no end but a failure, where that is asked.
 #[derive(Drop)]
 pub struct FakeReader {
-    pub bytes: &'static [u8],
-    pub at: usize,
-    pub fails: bool,
-    pub interrupted: bool,
+    bytes: &'static [u8],
+    at: usize,
+    fails: bool,
+    interrupted: bool,
+    faults: u64,
+}
+
+impl FakeReader {
+    pub fn new(bytes: &'static [u8], fails: bool) -> FakeReader {
+        FakeReader {
+            bytes,
+            at: 0,
+            fails,
+            interrupted: false,
+            faults: 0,
+        }
+    }
+
+    fn stopped(&mut self, why: Stop) -> Result<usize, Stop>
+        ensures err { result ≡ Err why }
+        ensures bytes { self.new.bytes ≡ self.old.bytes }
+        ensures at { self.new.at ≡ self.old.at }
+        ensures faults { self.new.faults ≡ count_after true self.old.faults }
+    {
+        self.faults = self.faults.saturating_add(1);
+        Err(why)
+    }
 }
 
 impl Reader for FakeReader {
-    ghost use Rattle.std.specs.Prelude.{None};
+    ghost use Rattle.std.specs.Prelude.{Some, drop};
 
-    ghost rest = { λ _. None };
+    ghost rest = { λ r. Some (drop r.at r.bytes.now) };
+
+    ghost faults = { λ r. r.faults };
 
     fn read(&mut self, into: &mut [u8]) -> Result<usize, Stop> {
         self.interrupted = !self.interrupted;
         if self.interrupted {
-            return Err(Stop::Interrupted);
+            return self.stopped(Stop::Interrupted);
         }
         if into.is_empty() {
             return Ok(0);
         }
-        match self.bytes.get(self.at) {
-            Some(byte) => {
-                into[0] = *byte;
-                self.at = self.at.saturating_add(1);
-                Ok(1)
-            }
-            None if self.fails => Err(Stop::Failed),
-            None => Ok(0),
+        if self.at < self.bytes.len() {
+            into[0] = self.bytes[self.at];
+            self.at += 1;
+            return Ok(1);
         }
+        if self.fails {
+            return self.stopped(Stop::Failed);
+        }
+        Ok(0)
     }
 }

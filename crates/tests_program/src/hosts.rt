@@ -1,11 +1,10 @@
-// Whole runs over the folder's logic, on a host that is none.
-use crate::fake::{FakeHost, FakeReader, fake};
+// Whole runs over the folder's logic, on a host in memory.
+use crate::fake::{FakeHost, FakeReader, Plan};
+use crate::runs::words_of;
 use datalinks::{Status, single};
-use dl_base::{List, Memory, Text};
+use dl_base::Area;
 use dl_host::{FolderBench, InputSource};
 use std::alloc::Global;
-use std::process::Abort;
-use std::test::*;
 
 fn script() -> &'static [u8] {
     b"@ann create /a one\n@ann read /a\n"
@@ -20,104 +19,110 @@ fn record() -> &'static [u8] {
     b"\x01\0\0\0\0\0\0\0\x24\x01\0\0\0\0\0\0\0\0\0\0\0\x01\x01\0\0\0\x02/a\0\0\0\x03ann\x01\0\0\0\0\x03one\0"
 }
 
-fn reader(fails: bool) -> FakeReader {
-    FakeReader {
-        bytes: script(),
-        at: 0,
-        fails,
-        interrupted: false,
-    }
-}
-
-/// A run of the script on this host: its end, and what it leaves.
-fn run(
-    alloc: Global,
-    host: FakeHost,
-    fails: bool,
-) -> Result<(Status, FolderBench<FakeHost>), Memory> {
-    let mut words = List::empty(alloc);
-    words.push(Text::of(alloc, b"run")?)?;
-    let mut source = InputSource::new(reader(fails));
-    Ok(single(alloc, words.as_slice(), &mut source, FolderBench::new(host)))
-}
-
-fn is_whole(rt: &impl Abort, host: &FakeHost) {
-    assert_eq!(rt; host.told.as_slice(), text());
-    assert_eq!(rt; host.bytes.as_slice(), record());
-}
-
-/// The folder is locked, the file opened and the folder synced before all else; a record takes two syncs.
-#[test]
-fn a_whole_run(rt: HostRuntime) -> Result<(), Memory> {
-    let (status, after) = run(rt.alloc(), fake(rt.alloc()), false)?;
-    assert_eq!(rt; status.code(), 0);
-    is_whole(&rt, after.host());
-    assert!(rt; after.host().calls.starts_with(b"lod"));
-    assert_eq!(rt; count(&after.host().calls, b'l'), 1);
-    assert_eq!(rt; count(&after.host().calls, b'o'), 1);
-    assert_eq!(rt; count(&after.host().calls, b'd'), 1);
-    Ok(())
+/// The end of a run, and what it leaves.
+#[derive(Clone, Copy)]
+struct End {
+    code: u8,
+    told: usize,
+    /// The whole text was told, and the file has the record.
+    is_whole: bool,
+    calls: usize,
+    /// The folder was locked, the file opened and the folder synced before all else, and each once.
+    begins_once: bool,
 }
 
 fn count(calls: &[u8], letter: u8) -> usize {
     calls.iter().filter(|c| **c == letter).count()
 }
 
+fn begins_once(calls: &[u8]) -> bool {
+    let firsts = [b'l', b'o', b'd'];
+    calls.starts_with(&firsts) && firsts.iter().all(|letter| count(calls, *letter) == 1)
+}
+
+fn end_of(status: Status, host: &FakeHost) -> End {
+    End {
+        code: status.code(),
+        told: host.told().len(),
+        is_whole: host.told() == text() && host.file(Area::Files) == record(),
+        calls: host.calls().len(),
+        begins_once: begins_once(host.calls()),
+    }
+}
+
+/// A run of the script by this plan. `None` is want of memory.
+fn run(alloc: Global, plan: Plan, fails: bool) -> Option<End> {
+    let host = FakeHost::new(alloc, plan).ok()?;
+    let words = words_of(alloc, b"run")?;
+    let mut source = InputSource::new(FakeReader::new(script(), fails));
+    let (status, after) = single(alloc, words.as_slice(), &mut source, FolderBench::new(host));
+    Some(end_of(status, after.host()))
+}
+
 #[test]
-fn short_and_interrupted_calls(rt: HostRuntime) -> Result<(), Memory> {
+fn a_whole_run(rt: HostRuntime) {
+    let end = run(rt.alloc(), Plan::new(rt.alloc()), false);
+    assert!(rt; end.is_some_and(|end| end.code == 0 && end.is_whole));
+    assert!(rt; end.is_some_and(|end| end.begins_once));
+}
+
+/// Whether a run is whole whose calls do so many bytes at most, each behind an interrupted one.
+fn is_whole_by(alloc: Global, most: usize) -> Option<bool> {
+    let mut plan = Plan::new(alloc);
+    plan.most = most;
+    plan.interrupts = true;
+    let end = run(alloc, plan, false)?;
+    Some(end.code == 0 && end.is_whole)
+}
+
+#[test]
+fn short_and_interrupted_calls(rt: HostRuntime) {
     for most in 1..5 {
-        let mut host = fake(rt.alloc());
-        host.most = most;
-        host.interrupts = true;
-        let (status, after) = run(rt.alloc(), host, false)?;
-        assert_eq!(rt; status.code(), 0);
-        is_whole(&rt, after.host());
+        assert_eq!(rt; is_whole_by(rt.alloc(), most), Some(true));
     }
-    Ok(())
 }
 
-/// What was told where calls of this letter fail; the run ends with the fault of the device.
-fn told_without(rt: &impl Abort, alloc: Global, letter: u8) -> Result<usize, Memory> {
-    let mut host = fake(alloc);
-    host.failing = letter;
-    let (status, after) = run(alloc, host, false)?;
-    assert_eq!(rt; status.code(), 3);
-    Ok(after.host().told.len())
+/// The status, and how much was told, where calls of this letter fail.
+fn end_without(alloc: Global, letter: u8) -> Option<(u8, usize)> {
+    let mut plan = Plan::new(alloc);
+    plan.failing = letter;
+    let end = run(alloc, plan, false)?;
+    Some((end.code, end.told))
 }
 
 #[test]
-fn each_call_failing(rt: HostRuntime) -> Result<(), Memory> {
+fn each_call_failing(rt: HostRuntime) {
     for letter in [b'l', b'o', b'd', b'n', b'w', b's', b't'] {
-        assert_eq!(rt; told_without(&rt, rt.alloc(), letter)?, 0);
+        assert_eq!(rt; end_without(rt.alloc(), letter), Some((3, 0)));
     }
-    Ok(())
+}
+
+/// No call but the one for the lock.
+#[test]
+fn a_locked_folder(rt: HostRuntime) {
+    let mut plan = Plan::new(rt.alloc());
+    plan.failing = b'l';
+    let end = run(rt.alloc(), plan, false);
+    assert!(rt; end.is_some_and(|end| end.calls == 1));
+}
+
+/// The status, and how much was told, where a file has room for so many bytes.
+fn end_within(alloc: Global, room: usize) -> Option<(u8, usize)> {
+    let mut plan = Plan::new(alloc);
+    plan.room = room;
+    let end = run(alloc, plan, false)?;
+    Some((end.code, end.told))
 }
 
 #[test]
-fn a_locked_folder(rt: HostRuntime) -> Result<(), Memory> {
-    let mut host = fake(rt.alloc());
-    host.failing = b'l';
-    let (_, after) = run(rt.alloc(), host, false)?;
-    assert_eq!(rt; after.host().calls.as_slice(), b"l".as_slice());
-    Ok(())
-}
-
-#[test]
-fn a_full_disk(rt: HostRuntime) -> Result<(), Memory> {
+fn a_full_disk(rt: HostRuntime) {
     for room in 0..46 {
-        let mut host = fake(rt.alloc());
-        host.room = room;
-        let (status, after) = run(rt.alloc(), host, false)?;
-        assert_eq!(rt; status.code(), 3);
-        assert_eq!(rt; after.host().told.len(), 0);
+        assert_eq!(rt; end_within(rt.alloc(), room), Some((3, 0)));
     }
-    Ok(())
 }
 
 #[test]
-fn a_read_that_fails_is_no_end(rt: HostRuntime) -> Result<(), Memory> {
-    let (status, after) = run(rt.alloc(), fake(rt.alloc()), true)?;
-    assert_eq!(rt; status.code(), 4);
-    assert_eq!(rt; after.host().calls.len(), 0);
-    Ok(())
+fn a_read_that_fails_is_no_end(rt: HostRuntime) {
+    let end = run(rt.alloc(), Plan::new(rt.alloc()), true);
+    assert!(rt; end.is_some_and(|end| end.code == 4 && end.calls == 0));
 }

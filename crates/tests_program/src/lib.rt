@@ -1,10 +1,9 @@
-//! Tests of whole runs: over a bench in memory, and over a folder whose host is none.
+//! Tests of whole runs: over a bench in memory, and over a folder whose host is in memory.
 #![tactic(auto)]
 
 #[cfg(test)]
 mod crashes;
-#[cfg(test)]
-mod fake;
+pub mod fake;
 #[cfg(test)]
 mod hosts;
 #[cfg(test)]

@@ -1,16 +1,14 @@
-// Whole runs over a bench in memory.
+// Whole runs over a bench in memory. In helpers `None` is want of memory.
 use datalinks::{Status, single};
-use dl_base::{Area, FileCmd, FileWhat, List, Memory, Name, Path, Text, is_name, is_path};
+use dl_base::{Area, FileCmd, FileWhat, List, Name, Path, Text, is_name, is_path};
 use dl_bench::{Call, MemoryBench, MemorySource};
 use fs_files::Files;
 use std::alloc::Global;
-use std::process::Abort;
-use std::test::*;
 
 // The bytes stand in functions without a clause, which keeps them out of the goals.
 
-/// The area Files after `@ann create /a one`.
-fn first_record() -> &'static [u8] {
+/// The area Files after `@ann create /a one`, whose end is at byte 46.
+pub fn first_record() -> &'static [u8] {
     b"\x01\0\0\0\0\0\0\0\x24\x01\0\0\0\0\0\0\0\0\0\0\0\x01\x01\0\0\0\x02/a\0\0\0\x03ann\x01\0\0\0\0\x03one\0"
 }
 
@@ -23,142 +21,219 @@ fn first_text() -> &'static [u8] {
 }
 
 /// A record whose length passes the end, a body that is no record, and a removal of a file that is not there.
-fn damaged(which: u8) -> &'static [u8] {
-    match which {
-        0 => b"\x01\0\0\0\0\0\0\0\x24\x01",
-        1 => b"\x01\0\0\0\0\0\0\0\x01\x07\0",
-        _ => b"\x01\0\0\0\0\0\0\0\x14\x01\0\0\0\0\0\0\0\0\0\0\0\x01\0\0\0\0\x02/a\0",
+fn damaged() -> [&'static [u8]; 3] {
+    [
+        b"\x01\0\0\0\0\0\0\0\x24\x01",
+        b"\x01\0\0\0\0\0\0\0\x01\x07\0",
+        b"\x01\0\0\0\0\0\0\0\x14\x01\0\0\0\0\0\0\0\0\0\0\0\x01\0\0\0\0\x02/a\0",
+    ]
+}
+
+/// Words with one space between them.
+pub fn words_of(alloc: Global, words: &[u8]) -> Option<List<Text>> {
+    let mut given = List::empty(alloc);
+    for word in words.split(|b| *b == b' ') {
+        given.push(Text::of(alloc, word).ok()?).ok()?;
     }
+    Some(given)
 }
 
-fn bench(alloc: Global) -> Result<MemoryBench, Fail> {
-    Ok(MemoryBench::new(alloc, List::empty(alloc), None)?)
+fn listed(alloc: Global, failing: Option<(Call, u64)>) -> Option<List<(Call, u64)>> {
+    let mut list = List::empty(alloc);
+    if let Some(call) = failing {
+        list.push(call).ok()?;
+    }
+    Some(list)
 }
 
-/// How a run ends that is given these words, one space between them, and what it leaves.
-pub fn ended(
+/// A bench with these Files, where the listed call fails, and each call after as many as the fuse says.
+pub fn bench_of(
+    alloc: Global,
+    files: &[u8],
+    failing: Option<(Call, u64)>,
+    fuse: Option<u64>,
+) -> Option<MemoryBench> {
+    let mut bench = MemoryBench::new(alloc, listed(alloc, failing)?, fuse).ok()?;
+    bench.put(Area::Files, files).ok()?;
+    Some(bench)
+}
+
+/// How a run ends that is given these words, and what it leaves.
+fn ended(
     alloc: Global,
     words: &[u8],
     source: &mut MemorySource,
     bench: MemoryBench,
-) -> Result<(Status, MemoryBench), Memory> {
-    let mut given = List::empty(alloc);
-    for word in words.split(|b| *b == b' ') {
-        given.push(Text::of(alloc, word)?)?;
-    }
-    Ok(single(alloc, given.as_slice(), source, bench))
+) -> Option<(Status, MemoryBench)> {
+    let given = words_of(alloc, words)?;
+    Some(single(alloc, given.as_slice(), source, bench))
 }
 
 /// The same of a script.
-fn done(
+pub fn done(
     alloc: Global,
     words: &[u8],
     script: &[u8],
     bench: MemoryBench,
-) -> Result<(Status, MemoryBench), Memory> {
-    let mut source = MemorySource::new(alloc, script, None)?;
+) -> Option<(Status, MemoryBench)> {
+    let mut source = MemorySource::new(alloc, script, None).ok()?;
     ended(alloc, words, &mut source, bench)
 }
 
-#[test]
-fn the_first_run_and_a_second_one(rt: HostRuntime) -> Result<(), Fail> {
-    let alloc = rt.alloc();
-    let (status, after) = done(alloc, b"run", first_script(), bench(alloc)?)?;
-    assert_eq!(rt; status, Status::Done);
-    assert_eq!(rt; after.told(), first_text());
-    assert_eq!(rt; after.area(Area::Files), first_record());
-    let mut later = bench(alloc)?;
-    later.put(Area::Files, first_record())?;
-    let (status, after) = done(alloc, b"run", b"@ann read /a", later)?;
-    assert_eq!(rt; status, Status::Done);
-    assert_eq!(rt; after.told(), b"1: bytes 3\n1| one\n".as_slice());
-    Ok(())
+/// The exit status, and the number that some have beside it: of the area Files, and no other.
+pub fn numbers(status: Status) -> (u8, u64) {
+    match status {
+        Status::NotAStore(Area::Files, place) => (status.code(), place),
+        Status::NotAStore(_, _) => (status.code(), u64::MAX),
+        Status::TooLong(taken) => (status.code(), taken),
+        _ => (status.code(), 0),
+    }
 }
 
-/// The record of the first line ends at byte 46.
-#[test]
-fn the_limit_of_the_area(rt: HostRuntime) -> Result<(), Fail> {
-    let alloc = rt.alloc();
-    let script = b"@ann create /a one";
-    let (status, after) = done(alloc, b"run --area 45", script, bench(alloc)?)?;
-    assert_eq!(rt; status.code(), 6);
-    assert_eq!(rt; after.told().len(), 0);
-    let (status, after) = done(alloc, b"--area=46 run", script, bench(alloc)?)?;
-    assert_eq!(rt; status, Status::Done);
-    assert_eq!(rt; after.told(), b"1: ok\n".as_slice());
-    assert_eq!(rt; after.area(Area::Files), first_record());
-    Ok(())
+/// The numbers of a run's end, and whether it told this text and left these Files.
+fn leaves(end: &(Status, MemoryBench), told: &[u8], files: &[u8]) -> ((u8, u64), bool) {
+    let same = end.1.told() == told && end.1.area(Area::Files) == files;
+    (numbers(end.0), same)
 }
 
-fn is_usage(rt: &impl Abort, alloc: Global, words: &[u8]) -> Result<(), Fail> {
-    let (status, after) = done(alloc, words, first_script(), bench(alloc)?)?;
-    assert_eq!(rt; status.code(), 2);
-    assert_eq!(rt; after.told().len() + after.area(Area::Files).len(), 0);
-    Ok(())
+/// A run of these words and this script on these Files: see `leaves`.
+fn run_leaves(
+    alloc: Global,
+    (words, script, before): (&[u8], &[u8], &[u8]),
+    (told, after): (&[u8], &[u8]),
+) -> Option<((u8, u64), bool)> {
+    let bench = bench_of(alloc, before, None, None)?;
+    let end = done(alloc, words, script, bench)?;
+    Some(leaves(&end, told, after))
 }
 
 #[test]
-fn other_words(rt: HostRuntime) -> Result<(), Fail> {
-    let alloc = rt.alloc();
-    is_usage(&rt, alloc, b"walk")?;
-    is_usage(&rt, alloc, b"run run")?;
-    is_usage(&rt, alloc, b"race")?;
-    is_usage(&rt, alloc, b"load 1 100")?;
-    is_usage(&rt, alloc, b"run --area 0")
+fn the_first_run_and_a_second_one(rt: HostRuntime) {
+    let first = (b"run".as_slice(), first_script(), b"".as_slice());
+    let left = run_leaves(rt.alloc(), first, (first_text(), first_record()));
+    assert_eq!(rt; left, Some(((0, 0), true)));
+    let second = (
+        b"run".as_slice(),
+        b"@ann read /a".as_slice(),
+        first_record(),
+    );
+    let left = run_leaves(
+        rt.alloc(),
+        second,
+        (b"1: bytes 3\n1| one\n", first_record()),
+    );
+    assert_eq!(rt; left, Some(((0, 0), true)));
+}
+
+/// With no room for the record the area has a closed gate alone.
+#[test]
+fn the_limit_of_the_area(rt: HostRuntime) {
+    let script = b"@ann create /a one".as_slice();
+    let short = (b"run --area 45".as_slice(), script, b"".as_slice());
+    assert_eq!(rt;
+        run_leaves(rt.alloc(), short, (b"", b"\0")),
+        Some(((6, 0), true))
+    );
+    let enough = (b"--area=46 run".as_slice(), script, b"".as_slice());
+    let left = run_leaves(rt.alloc(), enough, (b"1: ok\n", first_record()));
+    assert_eq!(rt; left, Some(((0, 0), true)));
+}
+
+fn no_commands() -> [&'static [u8]; 5] {
+    [b"walk", b"run run", b"race", b"load 1 100", b"run --area 0"]
 }
 
 #[test]
-fn faults_of_source_and_device(rt: HostRuntime) -> Result<(), Fail> {
-    let alloc = rt.alloc();
-    let mut broken = MemorySource::new(alloc, first_script(), Some(1))?;
-    let (status, _) = ended(alloc, b"run", &mut broken, bench(alloc)?)?;
-    assert_eq!(rt; status.code(), 4);
-    let mut failing = List::empty(alloc);
-    failing.push((Call::Write, 2))?;
-    let device = MemoryBench::new(alloc, failing, None)?;
-    let (status, _) = done(alloc, b"run", first_script(), device)?;
-    assert_eq!(rt; status.code(), 3);
-    Ok(())
-}
-
-fn stays_damaged(rt: &impl Abort, alloc: Global, bytes: &[u8]) -> Result<(), Fail> {
-    let mut damaged = bench(alloc)?;
-    damaged.put(Area::Files, bytes)?;
-    let (status, after) = done(alloc, b"run", first_script(), damaged)?;
-    assert_eq!(rt; status, Status::NotAStore(Area::Files, 0));
-    assert_eq!(rt; status.code(), 5);
-    assert_eq!(rt; after.area(Area::Files), bytes);
-    assert_eq!(rt; after.told().len(), 0);
-    Ok(())
+fn other_words(rt: HostRuntime) {
+    for words in no_commands() {
+        let left = run_leaves(rt.alloc(), (words, first_script(), b""), (b"", b""));
+        assert_eq!(rt; left, Some(((2, 0), true)));
+    }
 }
 
 #[test]
-fn damaged_areas_stay_as_they_are(rt: HostRuntime) -> Result<(), Fail> {
-    stays_damaged(&rt, rt.alloc(), damaged(0))?;
-    stays_damaged(&rt, rt.alloc(), damaged(1))?;
-    stays_damaged(&rt, rt.alloc(), damaged(2))
+fn damaged_areas_stay_as_they_are(rt: HostRuntime) {
+    for files in damaged() {
+        let left = run_leaves(rt.alloc(), (b"run", first_script(), files), (b"", files));
+        assert_eq!(rt; left, Some(((5, 0), true)));
+    }
 }
 
-fn path_a(rt: &impl Abort, alloc: Global) -> Result<Path, Fail> {
+/// The exit status of a run whose nth take fails, and how many bytes it told and left.
+fn without_source(alloc: Global, script: &[u8], n: u64) -> Option<(u8, usize)> {
+    let bench = bench_of(alloc, b"", None, None)?;
+    let mut source = MemorySource::new(alloc, script, Some(n)).ok()?;
+    let (status, after) = ended(alloc, b"run", &mut source, bench)?;
+    Some((
+        status.code(),
+        after.told().len() + after.area(Area::Files).len(),
+    ))
+}
+
+#[test]
+fn a_source_that_fails(rt: HostRuntime) {
+    for n in 1..3 {
+        assert_eq!(rt; without_source(rt.alloc(), first_script(), n), Some((4, 0)));
+    }
+}
+
+fn without_write(alloc: Global) -> Option<u8> {
+    let bench = bench_of(alloc, b"", Some((Call::Write, 2)), None)?;
+    let (status, _) = done(alloc, b"run", first_script(), bench)?;
+    Some(status.code())
+}
+
+#[test]
+fn a_device_that_fails(rt: HostRuntime) {
+    assert_eq!(rt; without_write(rt.alloc()), Some(3));
+}
+
+fn path_a(alloc: Global) -> Option<Path> {
     let bytes = b"/a";
-    assert!(rt; is_path(bytes));
-    Ok(Path::of(alloc, bytes)?)
+    if is_path(bytes) {
+        return Path::of(alloc, bytes).ok();
+    }
+    None
+}
+
+fn ann(alloc: Global) -> Option<Name> {
+    let bytes = b"ann";
+    if is_name(bytes) {
+        return Name::of(alloc, bytes).ok();
+    }
+    None
+}
+
+fn first_files(alloc: Global) -> Option<Files> {
+    let mut bench = bench_of(alloc, first_record(), None, None)?;
+    Files::begin(alloc, &mut bench, 100).ok()
+}
+
+/// Whether the file `/a` is there.
+fn is_found(alloc: Global) -> Option<bool> {
+    let files = first_files(alloc)?;
+    let path = path_a(alloc)?;
+    Some(files.look(&path).is_some())
+}
+
+fn deletion(alloc: Global) -> Option<FileCmd> {
+    let user = ann(alloc)?;
+    let path = path_a(alloc)?;
+    Some(FileCmd {
+        user,
+        what: FileWhat::Delete(path),
+    })
+}
+
+/// Whether a deletion of it is accepted.
+fn is_accepted(alloc: Global) -> Option<bool> {
+    let files = first_files(alloc)?;
+    let delete = deletion(alloc)?;
+    Some(matches!(files.test(&delete), Ok(None)))
 }
 
 #[test]
-fn files_are_looked_at_and_tested(rt: HostRuntime) -> Result<(), Fail> {
-    let alloc = rt.alloc();
-    let mut holding = bench(alloc)?;
-    holding.put(Area::Files, first_record())?;
-    let files = Files::begin(alloc, &mut holding, 100)?;
-    let path = path_a(&rt, alloc)?;
-    assert!(rt; files.look(&path).is_some());
-    let user = b"ann";
-    assert!(rt; is_name(user));
-    let delete = FileCmd {
-        user: Name::of(alloc, user)?,
-        what: FileWhat::Delete(path),
-    };
-    assert!(rt; files.test(&delete)?.is_none());
-    Ok(())
+fn files_are_looked_at_and_tested(rt: HostRuntime) {
+    assert_eq!(rt; is_found(rt.alloc()), Some(true));
+    assert_eq!(rt; is_accepted(rt.alloc()), Some(true));
 }

@@ -1,6 +1,7 @@
 use Rattle.std.proofs.Common.{◌≡◌, ◌≤◌, length, take, true}
 use Rattle.dl_base.specs.Outside.{Says, extended}
 use Rattle.dl_host.specs.Hosts.{Stays}
+use Rattle.dl_host.proofs.Turns.{Spent}
 use Rattle.dl_host.proofs.calls.tell_all.Given as goal
 
 abbrev pub invariant-more : goal.invariant-more
@@ -9,6 +10,7 @@ invariant-more g l =
     let n = g.H.Host.outside l.host in
     record {
       within : l.done ≤ length l.bytes;
+      spent : Spent l._turn l.done o.faults n.faults;
       told : n.told ≡ extended (take l.done l.bytes) o.told;
       crash : Says l.bytes o n;
       locked : (g.H.Host.hold l.host).has_lock ≡ true;

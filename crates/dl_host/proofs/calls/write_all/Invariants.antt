@@ -1,6 +1,7 @@
 use Rattle.std.proofs.Common.{◌≡◌, ◌≤◌, length, take, true}
 use Rattle.dl_base.specs.Outside.{Touches, Torn, overwritten}
 use Rattle.dl_host.specs.Hosts.{Stays}
+use Rattle.dl_host.proofs.Turns.{Spent}
 use Rattle.dl_host.proofs.calls.write_all.Given as goal
 
 abbrev pub invariant-more : goal.invariant-more
@@ -10,6 +11,7 @@ invariant-more g l =
     let n = g.H.Host.outside l.host in
     record {
       within : l.done ≤ length l.bytes;
+      spent : Spent l._turn l.done o.faults n.faults;
       written : n.reads area ≡ overwritten l.at (take l.done l.bytes) (o.reads area);
       crash : Touches area (Torn l.at (length l.bytes) (o.image area)) o n;
       locked : (g.H.Host.hold l.host).has_lock ≡ true;
