@@ -1,0 +1,4 @@
+pub mod Asking
+pub mod Finding
+pub mod Keys
+pub mod Rows
