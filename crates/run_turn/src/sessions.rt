@@ -18,7 +18,8 @@ use sql_table::Tables;
 use std::alloc::Global;
 use std::marker::Model;
 
-/// What stands between two lines of a run beside the files: the tables, which last for the run, and the actors so far.
+/// What stands between two lines of a run beside the files: the tables, which last for the run, and the actors so far. The
+/// rows of the tables fit.
 #[derive(Drop)]
 pub struct Sessions {
     tables: Tables,
@@ -31,6 +32,10 @@ impl Model for Sessions {
     ghost Value = { meant.Sessions };
 
     ghost view = { λ s. record { tables = s.tables; actors = s.actors } };
+
+    ghost use Rattle.meaning_tables.specs.Fits.{RowsFit};
+
+    ghost invariant = { λ s. RowsFit s.tables };
 }
 
 impl Sessions {

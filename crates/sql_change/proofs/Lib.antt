@@ -1,9 +1,13 @@
+pub mod Adding
 pub mod Clearing
 pub mod Columns
+pub mod Fitting
 pub mod KeyColumns
 pub mod KeyPlaces
 pub mod Naming
 pub mod Numbering
 pub mod Reversed
+pub mod Standing
 pub mod StoodKeys
+pub mod Unset
 pub mod Whole

@@ -1,17 +1,12 @@
--- The keys of a table with one key column.
-use Rattle.std.specs.Prelude.{◌≡◌, ℕ, ℤ, ◌==◌, List, [], ◌∷◌, slice_get}
+-- Key columns, and keys that have stood in a table with one of them.
+use Rattle.std.specs.Prelude.{◌≡◌, ℕ, ℤ, ◌==◌, Bool, false, List, [], ◌∷◌, Option, Some, None, slice_get}
 use Rattle.std.specs.Cmp.Lexicographic.{pointwise}
 use Rattle.std.specs.List.{list_any}
 use Rattle.std.specs.Ordering.{int_eq}
 use Rattle.dl_base.specs.declared.column.Column.{Column}
 use Rattle.dl_base.specs.declared.value.Value.{Value}
 use Rattle.dl_base.specs.declared.value.Value.TheVariants as values
-use Rattle.meaning_sql.specs.Faults.{option_list}
-use Rattle.meaning_tables.specs.Fits.{same_key, key_of}
-
--- the key is the value at a place
-abbrev pub IsKeyAt : List Column → ℕ → Type 0
-IsKeyAt columns place = (vs : List Value) → key_of columns vs ≡ option_list (slice_get vs place)
+use Rattle.meaning_tables.specs.Fits.{same_key, is_key}
 
 abbrev pub StoodKeys : Type 0
 StoodKeys = List (List Value)
@@ -21,3 +16,15 @@ abbrev pub HaveStood : List ℤ → List (List ℕ) → StoodKeys → Type 0
 HaveStood numbers texts stood =
     ((z : ℤ) → list_any (int_eq z) numbers ≡ list_any (pointwise same_key (values.Int z ∷ [])) stood)
     × ((t : List ℕ) → list_any (pointwise ◌==◌ t) texts ≡ list_any (pointwise same_key (values.Text t ∷ [])) stood)
+
+abbrev pub is_key_column : Option Column → Bool
+is_key_column (Some c) = is_key c.rule
+is_key_column None = false
+
+-- whether the column at a place is a key
+abbrev pub is_key_at : List Column → ℕ → Bool
+is_key_at columns place = is_key_column (slice_get columns place)
+
+-- whether one of the columns at these places is a key
+abbrev pub sets_key : List Column → List ℕ → Bool
+sets_key columns places = list_any (is_key_at columns) places

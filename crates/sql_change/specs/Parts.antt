@@ -65,17 +65,17 @@ inserted t names tuples context k = do
 abbrev pub with_rows : Rows → List (ℕ × Row) → Rows
 with_rows t rows = record t { rows = rows }
 
--- where the keys of the new rows differ
-unfoldable pub replaced : Rows → List (ℕ × Row) → ℕ → ℕ → Result Made SqlFault
-replaced t rows next met = do
-  keys ← keys_hold (with_rows t rows)
-  Ok (with_rows t rows, (next, met))
+-- where the keys of the table's rows differ
+unfoldable pub replaced : Rows → ℕ → ℕ → Result Made SqlFault
+replaced t next met = do
+  keys ← keys_hold t
+  Ok (t, (next, met))
 
 -- once all types fit
 unfoldable pub set_rows : Columns → Rows → List ℕ → List (List ℕ × Expr) → Option Expr → Context → ℕ → Result Made SqlFault
 set_rows columns t places sets filter context k = do
   rows ← updated_rows columns context t.columns (option_list filter) places (map (λ s. s.1) sets) k t.rows
-  replaced t rows.0 rows.1.0 rows.1.1
+  replaced (with_rows t rows.0) rows.1.0 rows.1.1
 
 -- once the places of the columns are known
 unfoldable pub set_at : Columns → Rows → List ℕ → List (List ℕ × Expr) → Option Expr → Context → ℕ → Result Made SqlFault

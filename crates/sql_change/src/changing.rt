@@ -1,11 +1,12 @@
 // A statement as a whole: the new table is built beside the old one, and put in its place as the last step, which takes no
 // memory.
-ghost use Rattle.std.specs.Prelude.{◌≡◌, ◌≢◌, ◌≤◌, IfOk, IfErr, OnErr, OnOk, Ok, Err, ℕ, suc};
+ghost use Rattle.std.specs.Prelude.{◌≡◌, ◌≢◌, ◌≤◌, IfOk, IfErr, OnErr, OnOk, Ok, Err, true, ℕ, suc};
 ghost use Rattle.dl_base.specs.Limits.{link_numbers};
 ghost use Rattle.dl_base.specs.declared.sql_fault.SqlFault.TheVariants as faults;
 ghost use Rattle.meaning_sql.specs.Faults.{Computes};
 ghost use Rattle.meaning_statements.specs.Changing as meant;
 ghost use Rattle.meaning_statements.specs.Sources.{present};
+ghost use Rattle.meaning_tables.specs.Fits.{RowsFit, table_fits};
 ghost use Rattle.meaning_tables.specs.Tables.{table_of, with_table};
 
 use crate::creating::columns_made;
@@ -14,6 +15,7 @@ use crate::updating::{deleted, updated};
 use dl_base::limits::{MOST_COLUMNS, MOST_TABLES};
 use dl_base::{ColumnDef, Expr, Limit, List, Memory, Name, SqlFault, Stmt};
 use sql_expr::Context;
+use sql_invariants::changes_keep_rows_fitting;
 use sql_table::{Table, Tables};
 use std::alloc::Global;
 
@@ -28,7 +30,7 @@ pub(crate) struct Outcome {
 /// Carries out CREATE TABLE, DROP TABLE, INSERT, UPDATE or DELETE, and gives the number of rows that it put in, met or removed;
 /// 0 for the first two, and for any other statement, which changes nothing. Links get the context's transaction number and the
 /// next link number, counted from 1 inside the transaction, which then goes up. A refusal, or want of memory, leaves the tables
-/// and the next link number as they were.
+/// and the next link number as they were. The rows of tables fit before and after it.
 pub fn change(
     alloc: Global,
     tables: &mut Tables,
@@ -36,7 +38,27 @@ pub fn change(
     context: &Context,
     next_link: &mut u32,
 ) -> Result<u64, SqlFault>
-    requires { next_link.old ≤ link_numbers }
+    requires numbers { next_link.old ≤ link_numbers }
+    requires rows { RowsFit tables.old }
+    ensures ok { IfOk result (λ count. meant.change tables.old stmt.now context.entry.now next_link.old ≡ Ok (record { tables = tables.new; next = next_link.new; count = count })) }
+    ensures refused { IfErr result (λ e. e ≢ faults.Memory → meant.change tables.old stmt.now context.entry.now next_link.old ≡ Err e) }
+    ensures unchanged { OnErr result ((tables.new ≡ tables.old) × (next_link.new ≡ next_link.old)) }
+    ensures few { next_link.new ≤ link_numbers }
+    ensures rows { RowsFit tables.new }
+{
+    changes_keep_rows_fitting();
+    carried_out(alloc, tables, stmt, context, next_link)
+}
+
+fn carried_out(
+    alloc: Global,
+    tables: &mut Tables,
+    stmt: &Stmt,
+    context: &Context,
+    next_link: &mut u32,
+) -> Result<u64, SqlFault>
+    requires numbers { next_link.old ≤ link_numbers }
+    requires rows { RowsFit tables.old }
     ensures ok { IfOk result (λ count. meant.change tables.old stmt.now context.entry.now next_link.old ≡ Ok (record { tables = tables.new; next = next_link.new; count = count })) }
     ensures refused { IfErr result (λ e. e ≢ faults.Memory → meant.change tables.old stmt.now context.entry.now next_link.old ≡ Err e) }
     ensures unchanged { OnErr result ((tables.new ≡ tables.old) × (next_link.new ≡ next_link.old)) }
@@ -112,8 +134,11 @@ fn drop_table(tables: &mut Tables, name: &Name) -> Result<(), SqlFault>
 }
 
 // The table of a name.
+#[tactic(auto, using(crate::proofs::Fitting::found_fits))]
 fn found<'a>(tables: &'a Tables, name: &Name) -> Result<&'a Table, SqlFault>
-    ensures { Computes (λ t. t.now) result (present name.now (table_of tables.now name.now)) }
+    requires { RowsFit tables.now }
+    ensures table { Computes (λ t. t.now) result (present name.now (table_of tables.now name.now)) }
+    ensures fits { IfOk result (λ t. table_fits t.now ≡ true) }
 {
     match tables.table(name) {
         Some(table) => Ok(table),
@@ -131,7 +156,8 @@ fn insert(
     context: &Context,
     next_link: &mut u32,
 ) -> Result<u64, SqlFault>
-    requires { next_link.old ≤ link_numbers }
+    requires numbers { next_link.old ≤ link_numbers }
+    requires rows { RowsFit tables.old }
     ensures ok { IfOk result (λ count. meant.insert tables.old name.now names.now tuples.now context.entry.now next_link.old ≡ Ok (record { tables = tables.new; next = next_link.new; count = count })) }
     ensures refused { IfErr result (λ e. e ≢ faults.Memory → meant.insert tables.old name.now names.now tuples.now context.entry.now next_link.old ≡ Err e) }
     ensures unchanged { OnErr result ((tables.new ≡ tables.old) × (next_link.new ≡ next_link.old)) }
@@ -158,7 +184,8 @@ fn update(
     context: &Context,
     next_link: &mut u32,
 ) -> Result<u64, SqlFault>
-    requires { next_link.old ≤ link_numbers }
+    requires numbers { next_link.old ≤ link_numbers }
+    requires rows { RowsFit tables.old }
     ensures ok { IfOk result (λ count. meant.update tables.old name.now sets.now filter.now context.entry.now next_link.old ≡ Ok (record { tables = tables.new; next = next_link.new; count = count })) }
     ensures refused { IfErr result (λ e. e ≢ faults.Memory → meant.update tables.old name.now sets.now filter.now context.entry.now next_link.old ≡ Err e) }
     ensures unchanged { OnErr result ((tables.new ≡ tables.old) × (next_link.new ≡ next_link.old)) }
@@ -185,7 +212,8 @@ fn delete(
     context: &Context,
     next_link: &mut u32,
 ) -> Result<u64, SqlFault>
-    requires { next_link.old ≤ link_numbers }
+    requires numbers { next_link.old ≤ link_numbers }
+    requires rows { RowsFit tables.old }
     ensures ok { IfOk result (λ count. meant.delete tables.old name.now filter.now context.entry.now next_link.old ≡ Ok (record { tables = tables.new; next = next_link.new; count = count })) }
     ensures refused { IfErr result (λ e. e ≢ faults.Memory → meant.delete tables.old name.now filter.now context.entry.now next_link.old ≡ Err e) }
     ensures unchanged { OnErr result ((tables.new ≡ tables.old) × (next_link.new ≡ next_link.old)) }

@@ -1,10 +1,15 @@
 // INSERT: the rows of its tuples, and the table with them.
-ghost use Rattle.std.specs.Prelude.{◌≡◌, ◌+◌, ◌≤◌, IfOk, IfErr, length, suc};
+ghost use Rattle.std.specs.Prelude.{◌≡◌, ◌+◌, ◌≤◌, All, IfOk, IfErr, Some, is_some, length, slice_get, suc, true};
 ghost use Rattle.dl_base.specs.Limits.{link_numbers, most_rows, row_numbers};
 ghost use Rattle.dl_base.specs.declared.sql_fault.SqlFault.TheVariants as faults;
+ghost use Rattle.dl_base.specs.declared.value.Value.{Value as ValueOf};
 ghost use Rattle.meaning_sql.specs.Faults.{Computes};
 ghost use Rattle.meaning_statements.specs.Changing as meant;
+ghost use Rattle.meaning_statements.specs.Changing.{keys_hold};
+ghost use Rattle.meaning_tables.specs.First.{first_number, has_key};
+ghost use Rattle.meaning_tables.specs.Fits.{table_fits};
 ghost use Rattle.sql_rows.specs.NewRows.{counted};
+ghost use Rattle.sql_keys.specs.Keys.{IsKeyAt};
 ghost use Rattle.sql_change.specs.Parts as parts;
 
 use crate::changing::Outcome;
@@ -13,6 +18,7 @@ use crate::places::{check_all_types, check_lengths, target_places, tuple_types};
 use dl_base::limits::{MOST_ROWS, ROW_NUMBERS};
 use dl_base::{Copied, Expr, Limit, List, Name, Row, SqlFault};
 use sql_expr::{Columns, Context};
+use sql_keys::only_key;
 use sql_rows::{NewRows, tuple_rows};
 use sql_table::Table;
 use std::alloc::Global;
@@ -27,7 +33,8 @@ pub(crate) fn inserted(
     context: &Context,
     k: u32,
 ) -> Result<Outcome, SqlFault>
-    requires { k ≤ link_numbers }
+    requires numbers { k ≤ link_numbers }
+    requires fits { table_fits table.now ≡ true }
     ensures made { Computes (λ m. (m.table, (m.next, m.count))) result (parts.inserted table.now names.now tuples.now context.entry.now k) }
     ensures few { IfOk result (λ m. m.next ≤ link_numbers) }
 {
@@ -51,7 +58,8 @@ fn put_in(
     context: &Context,
     k: u32,
 ) -> Result<Outcome, SqlFault>
-    requires { k ≤ link_numbers }
+    requires numbers { k ≤ link_numbers }
+    requires fits { table_fits table.now ≡ true }
     ensures made { Computes (λ m. (m.table, (m.next, m.count))) result (parts.put_in seen.now at.now table.now places.now tuples.now context.entry.now k) }
     ensures few { IfOk result (λ m. m.next ≤ link_numbers) }
 {
@@ -71,7 +79,8 @@ fn typed_in(
     context: &Context,
     k: u32,
 ) -> Result<Outcome, SqlFault>
-    requires { k ≤ link_numbers }
+    requires numbers { k ≤ link_numbers }
+    requires fits { table_fits table.now ≡ true }
     ensures made { Computes (λ m. (m.table, (m.next, m.count))) result (parts.typed_in seen.now at.now table.now places.now tuples.now context.entry.now k) }
     ensures few { IfOk result (λ m. m.next ≤ link_numbers) }
 {
@@ -92,7 +101,8 @@ fn filled(
     context: &Context,
     k: u32,
 ) -> Result<Outcome, SqlFault>
-    requires { k ≤ link_numbers }
+    requires numbers { k ≤ link_numbers }
+    requires fits { table_fits table.now ≡ true }
     ensures made { Computes (λ m. (m.table, (m.next, m.count))) result (parts.filled seen.now at.now table.now places.now tuples.now context.entry.now k) }
     ensures few { IfOk result (λ m. m.next ≤ link_numbers) }
 {
@@ -116,6 +126,7 @@ fn new_rows(
     ensures put { Computes (λ p. (counted table.now.next p.rows, p.next)) result (meant.inserted_rows context.entry.now seen.now at.now table.now.columns places.now table.now.next k tuples.now) }
     ensures few { IfOk result (λ p. p.next ≤ link_numbers) }
     ensures one_each { IfOk result (λ p. length p.rows ≡ length tuples.now) }
+    ensures wide { IfOk result (λ p. All (λ r. length r.values ≡ length table.now.columns) p.rows) }
 {
     let made = tuple_rows(alloc, context, seen, at, table.columns(), places, k, tuples)?;
     Ok(made)
@@ -132,6 +143,8 @@ fn has_room(table: &Table, more: usize) -> bool
 // A table with more rows, where there is room for them and the keys differ.
 #[tactic(auto, unfolding(crate::specs::Parts::grown))]
 fn grown(alloc: Global, table: &Table, made: NewRows) -> Result<Outcome, SqlFault>
+    requires fits { table_fits table.now ≡ true }
+    requires wide { All (λ r. length r.values ≡ length table.now.columns) made.rows }
     ensures made { Computes (λ m. (m.table, (m.next, m.count))) result (parts.grown table.now (counted table.now.next made.rows) made.next (length made.rows)) }
     ensures next { IfOk result (λ m. m.next ≡ made.next) }
 {
@@ -139,8 +152,7 @@ fn grown(alloc: Global, table: &Table, made: NewRows) -> Result<Outcome, SqlFaul
         return Err(SqlFault::Limit(Limit::Rows));
     }
     let count = made.rows.len() as u64;
-    let after = with_new_rows(table, made.rows)?;
-    check_keys(alloc, &after)?;
+    let after = with_new_rows(alloc, table, made.rows)?;
     Ok(Outcome {
         table: after,
         next: made.next,
@@ -148,8 +160,27 @@ fn grown(alloc: Global, table: &Table, made: NewRows) -> Result<Outcome, SqlFaul
     })
 }
 
+// A table with more rows, where the keys differ: one key column is asked of the index, several are looked at row by row.
+fn with_new_rows(alloc: Global, table: &Table, more: List<Row>) -> Result<Table, SqlFault>
+    requires few { length table.now.rows + length more ≤ most_rows }
+    requires small { table.now.next + length more ≤ row_numbers }
+    requires fits { table_fits table.now ≡ true }
+    requires wide { All (λ r. length r.values ≡ length table.now.columns) more }
+    ensures table { IfOk result (λ made. made ≡ parts.grown_table table.now (counted table.now.next more) (length more)) }
+    ensures keys { Computes (λ made. true) result (keys_hold (parts.grown_table table.now (counted table.now.next more) (length more))) }
+{
+    match only_key(table.columns().as_slice()) {
+        Some(place) => with_keyed_rows(table, place, more),
+        None => {
+            let made = with_rows(table, more)?;
+            check_keys(alloc, &made)?;
+            Ok(made)
+        }
+    }
+}
+
 // A copy of the table with more rows; the copy shares what it has with the table.
-fn with_new_rows(table: &Table, more: List<Row>) -> Result<Table, SqlFault>
+fn with_rows(table: &Table, more: List<Row>) -> Result<Table, SqlFault>
     requires few { length table.now.rows + length more ≤ most_rows }
     requires small { table.now.next + length more ≤ row_numbers }
     ensures table { IfOk result (λ made. made ≡ parts.grown_table table.now (counted table.now.next more) (length more)) }
@@ -160,4 +191,35 @@ fn with_new_rows(table: &Table, more: List<Row>) -> Result<Table, SqlFault>
         made.put_next(row)?;
     }
     Ok(made)
+}
+
+// The same where each row's key, at one place, is new.
+fn with_keyed_rows(table: &Table, place: usize, more: List<Row>) -> Result<Table, SqlFault>
+    requires few { length table.now.rows + length more ≤ most_rows }
+    requires small { table.now.next + length more ≤ row_numbers }
+    requires key { IsKeyAt table.now.columns place }
+    requires fits { table_fits table.now ≡ true }
+    requires wide { All (λ r. length r.values ≡ length table.now.columns) more }
+    ensures table { IfOk result (λ made. made ≡ parts.grown_table table.now (counted table.now.next more) (length more)) }
+    ensures keys { Computes (λ made. true) result (keys_hold (parts.grown_table table.now (counted table.now.next more) (length more))) }
+{
+    let mut made = table.copy()?;
+    for row in more.into_vec() {
+        if stands(&made, place, &row) {
+            drop(row);
+            return Err(SqlFault::DupKey(made.next_number()));
+        }
+        made.put_next(row)?;
+    }
+    Ok(made)
+}
+
+// Whether the value of a row at the place of the key is a key of the table.
+fn stands(table: &Table, place: usize, row: &Row) -> bool
+    ensures { (key : ValueOf) → slice_get row.now.values place ≡ Some key → result ≡ is_some (first_number (has_key table.now.columns key) table.now.rows) }
+{
+    match row.values.at(place) {
+        Some(key) => table.by_key(key).is_some(),
+        None => false,
+    }
 }

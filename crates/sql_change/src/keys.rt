@@ -1,5 +1,5 @@
 // The keys of rows.
-ghost use Rattle.std.specs.Prelude.{◌≡◌, ◌==◌, ◌||◌, ◌++◌, ◌∷◌, [], List, ℕ, ℤ, map, not, true, IfOk, IfSome, OnOk};
+ghost use Rattle.std.specs.Prelude.{◌≡◌, ◌==◌, ◌||◌, ◌++◌, ◌∷◌, [], List, ℕ, ℤ, map, not, true, IfOk, OnOk};
 ghost use Rattle.std.specs.Bool.{OnTrue};
 ghost use Rattle.std.specs.Cmp.Lexicographic.{pointwise};
 ghost use Rattle.std.specs.List.{list_any};
@@ -7,9 +7,11 @@ ghost use Rattle.std.specs.Ordering.{int_eq};
 ghost use Rattle.meaning_sql.specs.Faults.{Computes};
 ghost use Rattle.meaning_statements.specs.Changing.{keys_hold, duplicate};
 ghost use Rattle.meaning_tables.specs.Fits as meant;
-ghost use Rattle.sql_change.specs.Keys.{HaveStood, IsKeyAt, StoodKeys};
+ghost use Rattle.sql_change.specs.Keys.{HaveStood, StoodKeys, is_key_at, sets_key};
+ghost use Rattle.sql_keys.specs.Keys.{IsKeyAt};
 
 use dl_base::{Column, ColumnRule, Copied, List, Memory, Row, SqlFault, Value};
+use sql_keys::only_key;
 use sql_table::Table;
 use std::alloc::Global;
 use std::collections::HashSet;
@@ -23,25 +25,10 @@ pub(crate) fn check_keys(alloc: Global, table: &Table) -> Result<(), SqlFault>
     if !has_key(columns.as_slice()) {
         return Ok(());
     }
-    match only_key(columns) {
+    match only_key(columns.as_slice()) {
         Some(place) => check_one(alloc, table, place),
         None => check_all(alloc, table),
     }
-}
-
-// The place from 0 of the key column, where there is one alone.
-fn only_key(columns: &List<Column>) -> Option<usize>
-    ensures { IfSome result (λ place. IsKeyAt columns.now place) }
-{
-    for (i, column) in columns.as_slice().iter().enumerate() {
-        if is_key(column.rule) {
-            if has_key(columns.as_slice().split_at(i + 1).1) {
-                return None;
-            }
-            return Some(i);
-        }
-    }
-    None
 }
 
 // The keys in a table whose key is the value at one place: each is looked for among those that have stood.
@@ -122,6 +109,27 @@ fn has_key(columns: &[Column]) -> bool
     ensures { result ≡ list_any (λ c. meant.is_key c.rule) columns.now }
 {
     columns.iter().any(|column| is_key(column.rule))
+}
+
+/// Whether one of the columns at these places is a key.
+pub(crate) fn sets_key(columns: &List<Column>, places: &List<usize>) -> bool
+    ensures { result ≡ sets_key columns.now places.now }
+{
+    for place in places.as_slice() {
+        if is_key_at(columns, *place) {
+            return true;
+        }
+    }
+    false
+}
+
+fn is_key_at(columns: &List<Column>, place: usize) -> bool
+    ensures { result ≡ is_key_at columns.now place }
+{
+    match columns.at(place) {
+        Some(column) => is_key(column.rule),
+        None => false,
+    }
 }
 
 fn is_key(rule: ColumnRule) -> bool

@@ -1,18 +1,18 @@
-// UPDATE and DELETE: the rows of a table after them.
-ghost use Rattle.std.specs.Prelude.{◌≡◌, ◌≤◌, IfOk, IfErr, suc};
+// UPDATE and DELETE: a table after them.
+ghost use Rattle.std.specs.Prelude.{◌≡◌, ◌≤◌, IfOk, Ok, false, suc, true};
 ghost use Rattle.dl_base.specs.Limits.{link_numbers};
-ghost use Rattle.dl_base.specs.declared.sql_fault.SqlFault.TheVariants as faults;
 ghost use Rattle.meaning_sql.specs.Faults.{Computes};
+ghost use Rattle.meaning_statements.specs.Changing.{keys_hold};
 ghost use Rattle.meaning_statements.specs.Sources as sources_meant;
-ghost use Rattle.meaning_tables.specs.Tables.{Rise};
+ghost use Rattle.meaning_tables.specs.Fits.{table_fits};
 ghost use Rattle.sql_change.specs.Parts as parts;
 
 use crate::changing::Outcome;
-use crate::keys::check_keys;
+use crate::keys::{check_keys, sets_key};
 use crate::places::{check_types, own_columns, set_names, set_places, types_of_sets};
-use dl_base::{Copied, Expr, List, Name, Row, SqlFault};
+use dl_base::{Expr, List, Name, SqlFault};
 use sql_expr::{Columns, Context, filter_type};
-use sql_rows::{Updated, remaining, updated_rows};
+use sql_rows::{Updated, delete_rows, update_rows};
 use sql_table::Table;
 use std::alloc::Global;
 
@@ -27,7 +27,8 @@ pub(crate) fn updated(
     context: &Context,
     k: u32,
 ) -> Result<Outcome, SqlFault>
-    requires { k ≤ link_numbers }
+    requires numbers { k ≤ link_numbers }
+    requires fits { table_fits table.now ≡ true }
     ensures made { Computes (λ m. (m.table, (m.next, m.count))) result (parts.updated name.now table.now sets.now filter.now context.entry.now k) }
     ensures few { IfOk result (λ m. m.next ≤ link_numbers) }
 {
@@ -47,7 +48,8 @@ fn set_under(
     context: &Context,
     k: u32,
 ) -> Result<Outcome, SqlFault>
-    requires { k ≤ link_numbers }
+    requires numbers { k ≤ link_numbers }
+    requires fits { table_fits table.now ≡ true }
     ensures made { Computes (λ m. (m.table, (m.next, m.count))) result (parts.set_at (sources_meant.own_columns name.now table.now) table.now places.now sets.now filter.now context.entry.now k) }
     ensures few { IfOk result (λ m. m.next ≤ link_numbers) }
 {
@@ -66,7 +68,8 @@ fn set_at(
     context: &Context,
     k: u32,
 ) -> Result<Outcome, SqlFault>
-    requires { k ≤ link_numbers }
+    requires numbers { k ≤ link_numbers }
+    requires fits { table_fits table.now ≡ true }
     ensures made { Computes (λ m. (m.table, (m.next, m.count))) result (parts.set_at columns.now table.now places.now sets.now filter.now context.entry.now k) }
     ensures few { IfOk result (λ m. m.next ≤ link_numbers) }
 {
@@ -88,37 +91,31 @@ fn set_rows(
     context: &Context,
     k: u32,
 ) -> Result<Outcome, SqlFault>
-    requires { k ≤ link_numbers }
+    requires numbers { k ≤ link_numbers }
+    requires fits { table_fits table.now ≡ true }
     ensures made { Computes (λ m. (m.table, (m.next, m.count))) result (parts.set_rows columns.now table.now places.now sets.now filter.now context.entry.now k) }
     ensures few { IfOk result (λ m. m.next ≤ link_numbers) }
 {
-    let made = updated_rows(alloc, table, columns, context, filter, places, sets, k)?;
-    replaced(alloc, table, made)
+    let made = update_rows(alloc, table, columns, context, filter, places, sets, k)?;
+    let keyed = sets_key(table.columns(), places);
+    replaced(alloc, made, keyed)
 }
 
-// A table with other rows, where their keys differ.
+// The table after an UPDATE, where its keys differ, as they do where none is set.
 #[tactic(auto, unfolding(crate::specs::Parts::replaced))]
-fn replaced(alloc: Global, table: &Table, made: Updated) -> Result<Outcome, SqlFault>
-    requires { Rise 0 table.now.next made.rows }
-    ensures made { Computes (λ m. (m.table, (m.next, m.count))) result (parts.replaced table.now made.rows made.next made.met) }
+fn replaced(alloc: Global, made: Updated, keyed: bool) -> Result<Outcome, SqlFault>
+    requires { keyed ≡ false → keys_hold made.table ≡ Ok true }
+    ensures made { Computes (λ m. (m.table, (m.next, m.count))) result (parts.replaced made.table made.next made.met) }
     ensures next { IfOk result (λ m. m.next ≡ made.next) }
 {
-    let after = with_rows(table, made.rows)?;
-    check_keys(alloc, &after)?;
+    if keyed {
+        check_keys(alloc, &made.table)?;
+    }
     Ok(Outcome {
-        table: after,
+        table: made.table,
         next: made.next,
         count: made.met,
     })
-}
-
-fn with_rows(table: &Table, rows: List<(u64, Row)>) -> Result<Table, SqlFault>
-    requires { Rise 0 table.now.next rows }
-    ensures table { IfOk result (λ made. made ≡ parts.with_rows table.now rows) }
-    ensures memory { IfErr result (λ e. e ≡ faults.Memory) }
-{
-    let columns = table.columns().copy()?;
-    Ok(Table::with_rows(table.version(), columns, table.next_number(), rows)?)
 }
 
 /// What a DELETE makes of its table.
@@ -130,7 +127,8 @@ pub(crate) fn deleted(
     context: &Context,
     k: u32,
 ) -> Result<Outcome, SqlFault>
-    requires { k ≤ link_numbers }
+    requires numbers { k ≤ link_numbers }
+    requires fits { table_fits table.now ≡ true }
     ensures made { Computes (λ m. (m.table, (m.next, m.count))) result (parts.deleted name.now table.now filter.now context.entry.now k) }
     ensures few { IfOk result (λ m. m.next ≤ link_numbers) }
 {
@@ -147,15 +145,16 @@ fn left_over(
     context: &Context,
     k: u32,
 ) -> Result<Outcome, SqlFault>
-    requires { k ≤ link_numbers }
+    requires numbers { k ≤ link_numbers }
+    requires fits { table_fits table.now ≡ true }
     ensures made { Computes (λ m. (m.table, (m.next, m.count))) result (parts.left_over columns.now table.now filter.now context.entry.now k) }
     ensures few { IfOk result (λ m. m.next ≤ link_numbers) }
 {
     filter_type(columns, filter)?;
-    let rows = remaining(alloc, table, columns, context, filter)?;
-    let count = table.len().saturating_sub(rows.len()) as u64;
+    let left = delete_rows(alloc, table, columns, context, filter)?;
+    let count = table.len().saturating_sub(left.len()) as u64;
     Ok(Outcome {
-        table: with_rows(table, rows)?,
+        table: left,
         next: k,
         count,
     })

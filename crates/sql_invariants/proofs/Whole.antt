@@ -7,7 +7,7 @@ use Rattle.dl_base.specs.declared.statement.Stmt.{Stmt}
 use Rattle.dl_base.specs.declared.value.LinkRow.{LinkRow}
 use Rattle.meaning_sql.specs.declared.Context.{Context}
 use Rattle.meaning_statements.specs.Changing.{Changed, change}
-use Rattle.meaning_tables.specs.Fits.{Fits, differ}
+use Rattle.meaning_tables.specs.Fits.{Fits, RowsFit, differ}
 use Rattle.meaning_tables.specs.Links.{links, same_number}
 use Rattle.meaning_tables.specs.Tables.{Tables}
 use Rattle.sql_invariants.specs.Free.{IsFree, IsDrawn, is_ahead}
@@ -30,6 +30,9 @@ kept_fitting law tables stmt context k after fits free is =
       rises made.walk,
       not_from_false (list_any (λ (l : LinkRow). is_ahead context.tx after.next l.link) (links after.tables)) (stay_free made.walk none),
     )
+
+pub kept_rows_fitting : ValuesAreTyped → (tables : Tables) (stmt : Stmt) (context : Context) (k : ℕ) (after : Changed) → RowsFit tables → change tables stmt context k ≡ Ok after → RowsFit after.tables
+kept_rows_fitting law tables stmt context k after fit is = (change_made tables stmt context k after is).fit law fit
 
 pub others_free : (tables : Tables) (stmt : Stmt) (context : Context) (k : ℕ) (after : Changed) (tx first : ℕ) → change tables stmt context k ≡ Ok after → tx ≢ context.tx → IsFree tables tx first → IsFree after.tables tx first
 others_free tables stmt context k after tx first is other free =

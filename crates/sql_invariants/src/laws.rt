@@ -3,7 +3,7 @@ ghost use Rattle.std.specs.Prelude.{◌≡◌, ◌≢◌, ◌⊎◌, ◌≤◌, 
 ghost use Rattle.dl_base.specs.declared.statement.Stmt.{Stmt as StmtOf};
 ghost use Rattle.meaning_sql.specs.declared.Context.{Context as ContextOf};
 ghost use Rattle.meaning_statements.specs.Changing.{Changed, change};
-ghost use Rattle.meaning_tables.specs.Fits.{Fits};
+ghost use Rattle.meaning_tables.specs.Fits.{Fits, RowsFit};
 ghost use Rattle.meaning_tables.specs.Links.{links};
 ghost use Rattle.meaning_tables.specs.Tables.{Tables};
 ghost use Rattle.sql_invariants.specs.Free.{IsDrawn, IsFree};
@@ -15,6 +15,13 @@ use sql_expr::values_are_of_the_type;
 /// `k` on, what the statement makes of the tables fits too, and no cell of it has one with a count from the next one on.
 pub fn changes_keep_tables_fitting()
     ensures { (tables : Tables) (stmt : StmtOf) (context : ContextOf) (k : ℕ) (after : Changed) → Fits tables → IsFree tables context.tx k → change tables stmt context k ≡ Ok after → Fits after.tables × (k ≤ after.next) × IsFree after.tables context.tx after.next }
+{
+    values_are_of_the_type();
+}
+
+/// Where the rows of each table fit its columns and their keys differ, they still do after the statement.
+pub fn changes_keep_rows_fitting()
+    ensures { (tables : Tables) (stmt : StmtOf) (context : ContextOf) (k : ℕ) (after : Changed) → RowsFit tables → change tables stmt context k ≡ Ok after → RowsFit after.tables }
 {
     values_are_of_the_type();
 }

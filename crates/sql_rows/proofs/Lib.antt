@@ -1,2 +1,6 @@
-pub mod OneUpdated
+pub mod Alone
+pub mod Leaving
+pub mod Placing
 pub mod Rising
+pub mod Updating
+pub mod Wide

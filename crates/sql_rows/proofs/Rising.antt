@@ -8,11 +8,6 @@ rise_from : (first least below : ℕ) (rows : List (ℕ × Row)) → least ≤ f
 rise_from first least below [] le rise = tt
 rise_from first least below (r ∷ rs) le rise = (omega (arith, rise.0), rise.1, rise.2)
 
--- one more row has the next number
-pub rise_pushed : (first below : ℕ) (rows : List (ℕ × Row)) (row : Row) → first ≤ below → Rise first below rows → Rise first (below + 1) (rows ++ (below, row) ∷ [])
-rise_pushed first below [] row le rise = (le, omega arith, tt)
-rise_pushed first below (r ∷ rs) row le rise = (rise.0, omega (arith, rise.1), rise_pushed (r.0 + 1) below rs row (omega (arith, rise.1)) rise.2)
-
 -- a row is left out
 pub rise_left_out : (first below : ℕ) (before : List (ℕ × Row)) (row : ℕ × Row) (rest : List (ℕ × Row)) → Rise first below (before ++ row ∷ rest) → Rise first below (before ++ rest)
 rise_left_out first below [] row rest rise = rise_from (row.0 + 1) first below rest (omega (arith, rise.0)) rise.2
@@ -20,6 +15,6 @@ rise_left_out first below (r ∷ rs) row rest rise = (rise.0, rise.1, rise_left_
 
 -- a row has other values
 pub rise_changed : (first below : ℕ) (before : List (ℕ × Row)) (number : ℕ) (old new : Row) (rest : List (ℕ × Row))
-    → Rise first below (before ++ (number, old) ∷ rest) → Rise first below ((before ++ (number, new) ∷ []) ++ rest)
+    → Rise first below (before ++ (number, old) ∷ rest) → Rise first below (before ++ (number, new) ∷ rest)
 rise_changed first below [] number old new rest rise = rise
 rise_changed first below (r ∷ rs) number old new rest rise = (rise.0, rise.1, rise_changed (r.0 + 1) below rs number old new rest rise.2)

@@ -38,6 +38,7 @@ pub(crate) fn stored_row(
     requires { first ≤ link_numbers }
     ensures put { Computes (λ p. (p.values, p.next)) result (meant.stored_row tx first 0 columns.now old.now new.now) }
     ensures few { IfOk result (λ p. p.next ≤ link_numbers) }
+    ensures wide { IfOk result (λ p. length p.values ≡ length columns.now) }
 {
     let mut values = List::empty(alloc);
     let mut k = first;

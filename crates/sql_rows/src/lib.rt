@@ -1,7 +1,7 @@
-//! The rows that INSERT puts in, that UPDATE makes and that DELETE leaves.
+//! The rows that INSERT puts in, and tables after UPDATE and DELETE.
 #![tactic(auto)]
 
 mod cells;
 mod rows;
 
-pub use rows::{NewRows, Updated, remaining, tuple_rows, updated_rows, with_more};
+pub use rows::{NewRows, Updated, delete_rows, tuple_rows, update_rows};

@@ -1,15 +1,20 @@
-// The rows that INSERT puts in, that UPDATE makes, and that DELETE leaves.
-ghost use Rattle.std.specs.Prelude.{◌≡◌, ◌++◌, ◌∷◌, OnOk, ◌+◌, ◌<◌, ◌≤◌, ◌^◌, IfOk, Ok, [], length, map, if◌then◌else◌, suc};
+// The rows that INSERT puts in, and tables after UPDATE and DELETE.
+ghost use Rattle.std.specs.Prelude.{◌≡◌, ◌≤◌, All, IfErr, IfOk, Ok, [], length, map, suc, true};
 ghost use Rattle.dl_base.specs.Limits.{link_numbers};
+ghost use Rattle.dl_base.specs.declared.sql_fault.SqlFault.TheVariants as faults;
 ghost use Rattle.meaning_sql.specs.Faults.{Computes, try_map, option_list};
 ghost use Rattle.meaning_sql.specs.Values.{meaning};
 ghost use Rattle.meaning_statements.specs.Changing as meant;
-ghost use Rattle.meaning_tables.specs.Tables.{Rise};
-ghost use Rattle.sql_rows.specs.NewRows.{tuple_rows, counted};
+ghost use Rattle.meaning_tables.specs.Fits.{table_fits};
+ghost use Rattle.meaning_tables.specs.Tables.{Rise, with_row};
+ghost use Rattle.sql_keys.specs.Finding.{IsUnmet, PassesOver};
+ghost use Rattle.sql_keys.specs.declared.finding.KeyRows.TheVariants as key_rows;
+ghost use Rattle.sql_rows.specs.NewRows.{tuple_rows};
 
 use crate::cells::{PutRow, stored_row};
-use dl_base::{Column, Copied, Expr, List, Memory, Name, Row, SqlFault, Value};
+use dl_base::{Column, Copied, Expr, List, Name, Row, SqlFault, Value};
 use sql_expr::{Columns, Context, cell, filter_holds, value};
+use sql_keys::{KeyRows, rows_asked};
 use sql_table::Table;
 use std::alloc::Global;
 
@@ -22,11 +27,11 @@ pub struct NewRows {
     pub next: u32,
 }
 
-/// The rows of a table after an UPDATE, the next link number, and how many rows were met.
+/// A table after an UPDATE, the next link number, and how many rows were met.
 #[derive(Drop)]
 pub struct Updated {
-    /// All rows of the table, under their numbers.
-    pub rows: List<(u64, Row)>,
+    /// The table with the new values of the rows that were met.
+    pub table: Table,
     /// The count of the next link inside its transaction.
     pub next: u32,
     /// How many rows the condition was true of.
@@ -91,6 +96,7 @@ fn inserted_row(
     requires { k ≤ link_numbers }
     ensures put { Computes (λ p. (p.values, p.next)) result (meant.inserted_row context.entry.now seen.now at.now columns.now places.now k tuple.now) }
     ensures few { IfOk result (λ p. p.next ≤ link_numbers) }
+    ensures wide { IfOk result (λ p. length p.values ≡ length columns.now) }
 {
     let values = evaluated(alloc, tuple, at, seen, context)?;
     let values = arranged(alloc, columns, places, &Row { values })?;
@@ -101,7 +107,8 @@ fn inserted_row(
 }
 
 /// The rows of tuples in order: expressions, NULL rule, length and link limit of one before the next. Expressions see the
-/// given columns at the given row.
+/// given columns at the given row. Each row has a value for each column.
+#[tactic(auto, using(crate::proofs::Wide::wide_pushed))]
 pub fn tuple_rows(
     alloc: Global,
     context: &Context,
@@ -116,6 +123,7 @@ pub fn tuple_rows(
     ensures put { Computes (λ p. (p.rows, p.next)) result (tuple_rows context.entry.now seen.now at.now columns.now places.now first tuples.now) }
     ensures few { IfOk result (λ p. p.next ≤ link_numbers) }
     ensures one_each { IfOk result (λ p. length p.rows ≡ length tuples.now) }
+    ensures wide { IfOk result (λ p. All (λ r. length r.values ≡ length columns.now) p.rows) }
 {
     let mut rows = List::empty(alloc);
     let mut k = first;
@@ -127,70 +135,86 @@ pub fn tuple_rows(
     Ok(NewRows { rows, next: k })
 }
 
-/// The rows of a table, and behind them others under the numbers from its next one on.
-pub fn with_more(alloc: Global, table: &Table, more: List<Row>) -> Result<List<(u64, Row)>, Memory>
-    requires { table.now.next + length more < 2 ^ 64 }
-    ensures rows { IfOk result (λ made. made ≡ table.now.rows ++ counted table.now.next more) }
-    ensures rise { IfOk result (λ made. Rise 0 (table.now.next + length more) made) }
-{
-    let mut number = table.next_number();
-    let mut made = copied_rows(alloc, table)?;
-    for row in more.into_vec() {
-        put_next(&mut made, number, row)?;
-        number += 1;
-    }
-    Ok(made)
-}
-
-// Puts a row at the end under a number from which all others are smaller.
-#[tactic(auto, using(crate::proofs::Rising::rise_pushed))]
-fn put_next(made: &mut List<(u64, Row)>, number: u64, row: Row) -> Result<(), Memory>
-    requires { Rise 0 number made.old }
-    ensures rows { OnOk result (made.new ≡ made.old ++ (number, row) ∷ []) }
-    ensures rise { OnOk result (Rise 0 (number + 1) made.new) }
-{
-    made.push((number, row))?;
-    Ok(())
-}
-
-fn copied_rows(alloc: Global, table: &Table) -> Result<List<(u64, Row)>, Memory>
-    ensures { IfOk result (λ made. made ≡ table.now.rows) }
-{
-    let mut made = List::empty(alloc);
-    for i in 0..table.len() {
-        match table.at(i) {
-            Some((number, row)) => made.push((number, row.copy()?))?,
-            None => return Ok(made),
-        }
-    }
-    Ok(made)
-}
-
-/// The rows that a DELETE leaves, under their numbers.
-#[tactic(auto, using(crate::proofs::Rising::rise_left_out, crate::proofs::Rising::rise_changed))]
-pub fn remaining(
+/// What a DELETE leaves of a table: a copy, which shares what stays with the table. Where the condition asks for a key, the row that
+/// has it is looked at alone.
+pub fn delete_rows(
     alloc: Global,
     table: &Table,
     columns: &Columns,
     context: &Context,
     filter: &Option<Expr>,
-) -> Result<List<(u64, Row)>, SqlFault>
-    ensures rows { Computes (λ v. v) result (meant.remaining columns.now context.entry.now (option_list filter.now) table.now.rows) }
-    ensures rise { IfOk result (λ made. Rise 0 table.now.next made) }
+) -> Result<Table, SqlFault>
+    requires { table_fits table.now ≡ true }
+    ensures rows { Computes (λ t. t.rows) result (meant.remaining columns.now context.entry.now (option_list filter.now) table.now.rows) }
+    ensures others { IfOk result (λ t. t ≡ record table.now { rows = t.rows }) }
 {
-    let mut made = List::empty(alloc);
+    match rows_asked(table, columns, filter)? {
+        KeyRows::All => delete_each(alloc, table, columns, context, filter),
+        KeyRows::One(number) => delete_one(alloc, table, columns, context, filter, number),
+        KeyRows::Nothing => Ok(table.copy()?),
+    }
+}
+
+// The same where any row may be met.
+fn delete_each(
+    alloc: Global,
+    table: &Table,
+    columns: &Columns,
+    context: &Context,
+    filter: &Option<Expr>,
+) -> Result<Table, SqlFault>
+    ensures rows { Computes (λ t. t.rows) result (meant.remaining columns.now context.entry.now (option_list filter.now) table.now.rows) }
+    ensures others { IfOk result (λ t. t ≡ record table.now { rows = t.rows }) }
+{
+    let mut left = table.copy()?;
     for i in 0..table.len() {
         match table.at(i) {
             Some((number, row)) => {
-                if filter_holds(alloc, filter, row, columns, context)? {
+                let is_met = filter_holds(alloc, filter, row, columns, context)?;
+                if !is_met {
                     continue;
                 }
-                made.push((number, row.copy()?))?;
+                left.unset(number)?;
             }
-            None => return Ok(made),
+            None => return Ok(left),
         }
     }
-    Ok(made)
+    Ok(left)
+}
+
+// The same where the row of a number alone may be met.
+#[tactic(auto, using(crate::proofs::Alone::alone_left, crate::proofs::Alone::alone_gone, crate::proofs::Alone::alone_refused))]
+fn delete_one(
+    alloc: Global,
+    table: &Table,
+    columns: &Columns,
+    context: &Context,
+    filter: &Option<Expr>,
+    number: u64,
+) -> Result<Table, SqlFault>
+    requires { PassesOver (IsUnmet columns.now filter.now) table.now.rows (key_rows.One number) }
+    ensures rows { Computes (λ t. t.rows) result (meant.remaining columns.now context.entry.now (option_list filter.now) table.now.rows) }
+    ensures others { IfOk result (λ t. t ≡ record table.now { rows = t.rows }) }
+{
+    numbered(table);
+    match table.row(number) {
+        Some(row) => {
+            if !filter_holds(alloc, filter, row, columns, context)? {
+                return Ok(table.copy()?);
+            }
+            let mut left = table.copy()?;
+            left.unset(number)?;
+            Ok(left)
+        }
+        None => Ok(table.copy()?),
+    }
+}
+
+// The numbers of rows rise, as a table tells with their count.
+fn numbered(table: &Table)
+    ensures { Rise 0 table.now.next table.now.rows }
+{
+    let _ = table.len();
 }
 
 // The values that an UPDATE sets, in order.
@@ -257,36 +281,36 @@ fn updated_row(
     stored_row(alloc, context.tx, k, columns, row, &Row { values })
 }
 
-// A row after an UPDATE: with its new values where it is met, else as it was.
-fn row_after(
+/// What an UPDATE makes of a table, in a copy that shares all other rows with the table: of each row the condition, the right sides
+/// on the old row, and the NULL rule, length and link limit of each column, before the next row. Where the condition asks for a key,
+/// the row that has it is looked at alone.
+pub fn update_rows(
     alloc: Global,
-    met: bool,
+    table: &Table,
     all: &Columns,
     context: &Context,
-    columns: &List<Column>,
+    filter: &Option<Expr>,
     places: &List<usize>,
     sets: &List<(Name, Expr)>,
-    k: u32,
-    row: &Row,
-) -> Result<PutRow, SqlFault>
-    requires { k ≤ link_numbers }
-    ensures put { Computes (λ p. (p.values, p.next)) result (if met then meant.updated_row all.now context.entry.now columns.now places.now (map (λ s. s.1) sets.now) k row.now else Ok (row.now.values, k)) }
-    ensures few { IfOk result (λ p. p.next ≤ link_numbers) }
+    first: u32,
+) -> Result<Updated, SqlFault>
+    requires numbers { first ≤ link_numbers }
+    requires fits { table_fits table.now ≡ true }
+    ensures put { Computes (λ u. (u.table.rows, (u.next, u.met))) result (meant.updated_rows all.now context.entry.now table.now.columns (option_list filter.now) places.now (map (λ s. s.1) sets.now) first table.now.rows) }
+    ensures others { IfOk result (λ u. u.table ≡ record table.now { rows = u.table.rows }) }
+    ensures few { IfOk result (λ u. u.next ≤ link_numbers) }
 {
-    if met {
-        updated_row(alloc, all, context, columns, places, sets, k, row)
-    } else {
-        Ok(PutRow {
-            values: row.values.copy()?,
-            next: k,
-        })
+    match rows_asked(table, all, filter)? {
+        KeyRows::All => update_each(alloc, table, all, context, filter, places, sets, first),
+        KeyRows::One(number) => update_one(
+            alloc, table, all, context, filter, places, sets, first, number,
+        ),
+        KeyRows::Nothing => Ok(unmet(table.copy()?, first)),
     }
 }
 
-/// The rows of a table after an UPDATE, under their numbers: of each row the condition, the right sides on the old row, and the
-/// NULL rule, length and link limit of each column, before the next row.
-#[tactic(auto, using(crate::proofs::Rising::rise_changed))]
-pub fn updated_rows(
+// The same where any row may be met.
+fn update_each(
     alloc: Global,
     table: &Table,
     all: &Columns,
@@ -297,52 +321,104 @@ pub fn updated_rows(
     first: u32,
 ) -> Result<Updated, SqlFault>
     requires { first ≤ link_numbers }
-    ensures put { Computes (λ u. (u.rows, (u.next, u.met))) result (meant.updated_rows all.now context.entry.now table.now.columns (option_list filter.now) places.now (map (λ s. s.1) sets.now) first table.now.rows) }
+    ensures put { Computes (λ u. (u.table.rows, (u.next, u.met))) result (meant.updated_rows all.now context.entry.now table.now.columns (option_list filter.now) places.now (map (λ s. s.1) sets.now) first table.now.rows) }
+    ensures others { IfOk result (λ u. u.table ≡ record table.now { rows = u.table.rows }) }
     ensures few { IfOk result (λ u. u.next ≤ link_numbers) }
-    ensures rise { IfOk result (λ u. Rise 0 table.now.next u.rows) }
 {
-    let mut rows = List::empty(alloc);
+    let mut made = table.copy()?;
     let mut k = first;
-    let mut count = 0;
+    let mut met = 0;
     for i in 0..table.len() {
         match table.at(i) {
             Some((number, row)) => {
-                let met = filter_holds(alloc, filter, row, all, context)?;
-                let put = row_after(
-                    alloc,
-                    met,
-                    all,
-                    context,
-                    table.columns(),
-                    places,
-                    sets,
-                    k,
-                    row,
-                )?;
-                rows.push((number, Row { values: put.values }))?;
+                let is_met = filter_holds(alloc, filter, row, all, context)?;
+                if !is_met {
+                    continue;
+                }
+                let put = updated_row(alloc, all, context, table.columns(), places, sets, k, row)?;
+                made.set(number, Row { values: put.values })?;
                 k = put.next;
-                count = with_one(count, met);
+                met += 1;
             }
             None => {
                 return Ok(Updated {
-                    rows,
+                    table: made,
                     next: k,
-                    met: count,
+                    met,
                 });
             }
         }
     }
     Ok(Updated {
-        rows,
+        table: made,
         next: k,
-        met: count,
+        met,
     })
 }
 
-// One more where a row is met.
-fn with_one(count: u64, met: bool) -> u64
-    requires { count + 1 < 2 ^ 64 }
-    ensures { result ≡ count + (if met then 1 else 0) }
+// The same where the row of a number alone may be met.
+#[tactic(auto, using(crate::proofs::Alone::alone_passed, crate::proofs::Alone::alone_set, crate::proofs::Alone::alone_stopped, crate::proofs::Alone::alone_stopped_in))]
+fn update_one(
+    alloc: Global,
+    table: &Table,
+    all: &Columns,
+    context: &Context,
+    filter: &Option<Expr>,
+    places: &List<usize>,
+    sets: &List<(Name, Expr)>,
+    first: u32,
+    number: u64,
+) -> Result<Updated, SqlFault>
+    requires numbers { first ≤ link_numbers }
+    requires over { PassesOver (IsUnmet all.now filter.now) table.now.rows (key_rows.One number) }
+    ensures put { Computes (λ u. (u.table.rows, (u.next, u.met))) result (meant.updated_rows all.now context.entry.now table.now.columns (option_list filter.now) places.now (map (λ s. s.1) sets.now) first table.now.rows) }
+    ensures others { IfOk result (λ u. u.table ≡ record table.now { rows = u.table.rows }) }
+    ensures few { IfOk result (λ u. u.next ≤ link_numbers) }
 {
-    if met { count + 1 } else { count }
+    numbered(table);
+    match table.row(number) {
+        Some(row) => {
+            if !filter_holds(alloc, filter, row, all, context)? {
+                return Ok(unmet(table.copy()?, first));
+            }
+            let put = updated_row(
+                alloc,
+                all,
+                context,
+                table.columns(),
+                places,
+                sets,
+                first,
+                row,
+            )?;
+            set_one(table, number, put)
+        }
+        None => Ok(unmet(table.copy()?, first)),
+    }
+}
+
+// A table of which one row is met, which has other values.
+fn set_one(table: &Table, number: u64, put: PutRow) -> Result<Updated, SqlFault>
+    ensures table { IfOk result (λ u. u.table ≡ record table.now { rows = with_row table.now.rows number (record { values = put.values }) }) }
+    ensures next { IfOk result (λ u. (u.next ≡ put.next) × (u.met ≡ 1)) }
+    ensures memory { IfErr result (λ e. e ≡ faults.Memory) }
+{
+    let mut made = table.copy()?;
+    made.set(number, Row { values: put.values })?;
+    Ok(Updated {
+        table: made,
+        next: put.next,
+        met: 1,
+    })
+}
+
+// What is made of a table of which no row is met.
+fn unmet(table: Table, next: u32) -> Updated
+    ensures { result ≡ record { table = table; next = next; met = 0 } }
+{
+    Updated {
+        table,
+        next,
+        met: 0,
+    }
 }

@@ -2,6 +2,7 @@
 ghost use Rattle.std.specs.Prelude.{◌≡◌, ◌≢◌, ◌≤◌, IfOk, OnErr, Err, suc};
 ghost use Rattle.dl_base.specs.Limits.{link_numbers};
 ghost use Rattle.dl_base.specs.declared.sql_fault.SqlFault.TheVariants as faults;
+ghost use Rattle.meaning_tables.specs.Fits.{RowsFit};
 ghost use Rattle.sql_run.specs.declared.evaluating.Outcome.TheVariants as outcomes;
 ghost use Rattle.sql_run.specs.Outcomes.{Evaluated, evaluated, answer_of, counted, done, rows_answered};
 
@@ -40,7 +41,7 @@ pub fn answer_of(outcome: Outcome) -> Answer
 /// Carries out a statement over tables, and gives its outcome. CREATE TABLE and DROP TABLE are `Done`. BEGIN, COMMIT and ROLLBACK
 /// are not for this call: they are `Done` and change nothing. Links get the context's transaction number and the next link number,
 /// counted from 1 inside the transaction, which then goes up. A statement that is refused, or for which there is no memory, leaves
-/// the tables and the next link number as they were.
+/// the tables and the next link number as they were. The rows of tables fit before and after it.
 pub fn evaluate(
     alloc: Global,
     tables: &mut Tables,
@@ -48,11 +49,13 @@ pub fn evaluate(
     context: &Context,
     next_link: &mut u32,
 ) -> Result<Outcome, Memory>
-    requires { next_link.old ≤ link_numbers }
+    requires numbers { next_link.old ≤ link_numbers }
+    requires rows { RowsFit tables.old }
     ensures exact { IfOk result (λ outcome. evaluated tables.old stmt.now context.entry.now next_link.old ≡ record { outcome = outcome; tables = tables.new; next = next_link.new }) }
     ensures memory { IfOk result (λ outcome. outcome ≢ outcomes.Refused faults.Memory) }
     ensures unchanged { OnErr result ((tables.new ≡ tables.old) × (next_link.new ≡ next_link.old)) }
     ensures few { next_link.new ≤ link_numbers }
+    ensures rows { RowsFit tables.new }
 {
     match stmt {
         Stmt::Select(query) => rows_answered(select(alloc, tables, query, context)),

@@ -2,6 +2,7 @@
 ghost use Rattle.std.specs.Prelude.{◌≡◌, [], IfOk, Ok, Err};
 ghost use Rattle.meaning_script.specs.Printed.{line_text};
 ghost use Rattle.meaning_sql.specs.declared.Context.{Context as ContextMeant};
+ghost use Rattle.meaning_tables.specs.Fits.{RowsFit};
 ghost use Rattle.meaning_tables.specs.Tables.{Tables as TablesMeant};
 ghost use Rattle.sql_shell.specs.Told.{Answers, IsAnswer, Tells, first_context};
 
@@ -40,7 +41,9 @@ fn answer_of_fault(fault: ParseFault) -> Result<Answer, Memory>
 
 // A statement of its own transaction, whose links count from 1.
 fn run(alloc: Global, tables: &mut Tables, stmt: &Stmt, context: &Context) -> Result<Answer, Memory>
-    ensures { IfOk result (λ answer. IsAnswer tables.old context.entry.now (Ok stmt.now) answer tables.new) }
+    requires { RowsFit tables.old }
+    ensures exact { IfOk result (λ answer. IsAnswer tables.old context.entry.now (Ok stmt.now) answer tables.new) }
+    ensures rows { RowsFit tables.new }
 {
     let mut next_link = 1u32;
     let outcome = evaluate(alloc, tables, stmt, context, &mut next_link)?;
@@ -53,7 +56,9 @@ fn answer(
     context: &Context,
     line: &[u8],
 ) -> Result<Answer, Memory>
-    ensures { IfOk result (λ answer. Answers tables.old context.entry.now line.now answer tables.new) }
+    requires { RowsFit tables.old }
+    ensures exact { IfOk result (λ answer. Answers tables.old context.entry.now line.now answer tables.new) }
+    ensures rows { RowsFit tables.new }
 {
     match parse(alloc, line) {
         Ok(stmt) => run(alloc, tables, &stmt, context),
@@ -70,7 +75,9 @@ pub fn told(
     number: u64,
     line: &[u8],
 ) -> Result<Text, Memory>
-    ensures { IfOk result (λ told. Tells tables.old context.entry.now number line.now told tables.new) }
+    requires { RowsFit tables.old }
+    ensures exact { IfOk result (λ told. Tells tables.old context.entry.now number line.now told tables.new) }
+    ensures rows { RowsFit tables.new }
 {
     let answer = answer(alloc, tables, context, line)?;
     printed(alloc, number, &answer)

@@ -1,4 +1,4 @@
-use Rattle.std.proofs.Common.{◌≡◌, ◌++◌, ◌≤◌, drop, Ok, suc}
+use Rattle.std.proofs.Common.{◌≡◌, ◌++◌, ◌≤◌, drop, length, Ok}
 use Rattle.dl_base.specs.Limits.{link_numbers}
 use Rattle.meaning_sql.specs.Faults.{and_then}
 use Rattle.meaning_statements.specs.Assigning.{stored_row}
@@ -8,5 +8,6 @@ use Rattle.sql_rows.proofs.cells.stored_row.Given as goal
 abbrev pub invariant-loop-i : goal.invariant-loop-i
 invariant-loop-i l = record {
   few : l.k ≤ link_numbers;
+  wide : length l.values ≡ l.i;
   put : and_then (stored_row l.tx l.k l.i (drop l.i l.columns) l.old l.new) (λ q. Ok (l.values ++ q.0, q.1)) ≡ stored_row l.tx l.first 0 l.columns l.old l.new;
 }

@@ -3,7 +3,7 @@ use Rattle.std.specs.Vec.Iter.{into_iter_items}
 use Rattle.dl_base.specs.Limits.{most_rows, row_numbers}
 use Rattle.sql_rows.specs.NewRows.{counted}
 use Rattle.sql_change.specs.Parts.{grown_table}
-use Rattle.sql_change.proofs.inserting.with_new_rows.Given as goal
+use Rattle.sql_change.proofs.inserting.with_rows.Given as goal
 
 abbrev pub invariant-loop-row : goal.invariant-loop-row
 invariant-loop-row l = record {

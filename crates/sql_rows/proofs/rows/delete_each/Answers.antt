@@ -1,0 +1,40 @@
+use Rattle.std.proofs.Common.{◌≡◌, ◌+◌, ◌∷◌, true, false, drop, Ok, rules}
+use Rattle.meaning_sql.specs.Conditions.{holds_all}
+use Rattle.meaning_sql.specs.Faults.{option_list}
+use Rattle.meaning_tables.specs.Tables.{without_row}
+use Rattle.sql_rows.proofs.Leaving.{gone, passed, rise_so}
+use Rattle.sql_rows.proofs.Placing.{still_of}
+use Rattle.sql_rows.proofs.rows.delete_each.Goals as goal
+
+pub loop-i-preserved-then-not-is_met : goal.loop-i-preserved-then-not-is_met
+loop-i-preserved-then-not-is_met c =
+    let t = c.args.table.now in
+    let i = c.loop-i.i in
+    let number = c.in-Some.number in
+    let row = c.in-Some.row.now in
+    let conditions = option_list c.args.filter.now in
+    let at : drop i t.rows ≡ (number, row) ∷ drop (i + 1) t.rows = search rules in
+    let holds : holds_all c.args.columns.now c.args.context.now conditions row ≡ Ok false = search rules in
+    record {
+      others = c.loop-i.invariant.others;
+      rise = c.loop-i.invariant.rise;
+      so = passed c.args.columns.now c.args.context.now t conditions c.loop-i.left i number row at holds c.loop-i.invariant.so;
+    }
+
+pub loop-i-preserved : goal.loop-i-preserved
+loop-i-preserved c =
+    let t = c.args.table.now in
+    let i = c.loop-i.i in
+    let left = c.loop-i.left in
+    let after = c.unset.new.self in
+    let number = c.in-Some.number in
+    let row = c.in-Some.row.now in
+    let conditions = option_list c.args.filter.now in
+    let at : drop i t.rows ≡ (number, row) ∷ drop (i + 1) t.rows = search rules in
+    let holds : holds_all c.args.columns.now c.args.context.now conditions row ≡ Ok true = search rules in
+    let unset : after ≡ record left { rows = without_row left.rows number } = search rules in
+    record {
+      others = still_of t left after (without_row left.rows number) c.loop-i.invariant.others unset;
+      rise = rise_so c.args.columns.now c.args.context.now t conditions left after i number row at c.loop-i.invariant.rise unset c.loop-i.invariant.so;
+      so = gone c.args.columns.now c.args.context.now t conditions left after i number row at holds c.loop-i.invariant.rise unset c.loop-i.invariant.so;
+    }

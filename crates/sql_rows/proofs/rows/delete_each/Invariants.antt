@@ -1,0 +1,12 @@
+use Rattle.std.proofs.Common.{◌≡◌}
+use Rattle.meaning_sql.specs.Faults.{option_list}
+use Rattle.meaning_tables.specs.Tables.{Rise}
+use Rattle.sql_rows.proofs.Leaving.{LeftSo}
+use Rattle.sql_rows.proofs.rows.delete_each.Given as goal
+
+abbrev pub invariant-loop-i : goal.invariant-loop-i
+invariant-loop-i l = record {
+  others : l.left ≡ record l.table { rows = l.left.rows };
+  rise : Rise 0 l.table.next l.left.rows;
+  so : LeftSo l.columns l.context l.table (option_list l.filter) l.left l.i;
+}

@@ -1,0 +1,51 @@
+use Rattle.std.proofs.Common.{◌≡◌, ◌+◌, ◌∷◌, true, false, drop, map, Ok, arith, rules}
+use Rattle.dl_base.specs.declared.value.Row.{Row}
+use Rattle.meaning_sql.specs.Conditions.{holds_all}
+use Rattle.meaning_sql.specs.Faults.{option_list}
+use Rattle.meaning_statements.specs.Changing.{updated_row}
+use Rattle.meaning_tables.specs.Tables.{with_row}
+use Rattle.sql_rows.proofs.Placing.{still_of}
+use Rattle.sql_rows.proofs.Updating.{passed, rise_so, set_so}
+use Rattle.sql_rows.proofs.rows.update_each.Goals as goal
+
+pub loop-i-preserved-then-not-is_met : goal.loop-i-preserved-then-not-is_met
+loop-i-preserved-then-not-is_met c =
+    let t = c.args.table.now in
+    let i = c.loop-i.i in
+    let number = c.in-Some.number in
+    let row = c.in-Some.row.now in
+    let rights = map (λ s. s.1) c.args.sets.now in
+    let conditions = option_list c.args.filter.now in
+    let at : drop i t.rows ≡ (number, row) ∷ drop (i + 1) t.rows = search rules in
+    let holds : holds_all c.args.all.now c.args.context.now conditions row ≡ Ok false = search rules in
+    record {
+      few = c.loop-i.invariant.few;
+      met = omega (arith, c.loop-i.invariant.met);
+      others = c.loop-i.invariant.others;
+      rise = c.loop-i.invariant.rise;
+      so = passed c.args.all.now c.args.context.now t conditions c.args.places.now rights c.args.first c.loop-i.made i c.loop-i.k c.loop-i.met number row at holds c.loop-i.invariant.so;
+    }
+
+pub loop-i-preserved : goal.loop-i-preserved
+loop-i-preserved c =
+    let t = c.args.table.now in
+    let i = c.loop-i.i in
+    let made = c.loop-i.made in
+    let after = c.set.new.self in
+    let number = c.in-Some.number in
+    let row = c.in-Some.row.now in
+    let put = c.in_ok-put-in-Some.put in
+    let new : Row = record { values = put.values } in
+    let rights = map (λ s. s.1) c.args.sets.now in
+    let conditions = option_list c.args.filter.now in
+    let at : drop i t.rows ≡ (number, row) ∷ drop (i + 1) t.rows = search rules in
+    let holds : holds_all c.args.all.now c.args.context.now conditions row ≡ Ok true = search rules in
+    let becomes : updated_row c.args.all.now c.args.context.now t.columns c.args.places.now rights c.loop-i.k row ≡ Ok (put.values, put.next) = search rules in
+    let set : after ≡ record made { rows = with_row made.rows number new } = search rules in
+    record {
+      few = search rules;
+      met = omega (arith, c.loop-i.invariant.met);
+      others = still_of t made after (with_row made.rows number new) c.loop-i.invariant.others set;
+      rise = rise_so c.args.all.now c.args.context.now t conditions c.args.places.now rights c.args.first made after i c.loop-i.k c.loop-i.met number row new at c.loop-i.invariant.rise set c.loop-i.invariant.so;
+      so = set_so c.args.all.now c.args.context.now t conditions c.args.places.now rights c.args.first made after i c.loop-i.k put.next c.loop-i.met number row put.values at holds becomes c.loop-i.invariant.rise set c.loop-i.invariant.so;
+    }

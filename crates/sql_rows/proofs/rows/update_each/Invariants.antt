@@ -1,0 +1,15 @@
+use Rattle.std.proofs.Common.{◌≡◌, ◌≤◌, map}
+use Rattle.dl_base.specs.Limits.{link_numbers}
+use Rattle.meaning_sql.specs.Faults.{option_list}
+use Rattle.meaning_tables.specs.Tables.{Rise}
+use Rattle.sql_rows.proofs.Updating.{UpdatedSo}
+use Rattle.sql_rows.proofs.rows.update_each.Given as goal
+
+abbrev pub invariant-loop-i : goal.invariant-loop-i
+invariant-loop-i l = record {
+  few : l.k ≤ link_numbers;
+  met : l.met ≤ l.i;
+  others : l.made ≡ record l.table { rows = l.made.rows };
+  rise : Rise 0 l.table.next l.made.rows;
+  so : UpdatedSo l.all l.context l.table (option_list l.filter) l.places (map (λ s. s.1) l.sets) l.first l.made l.i l.k l.met;
+}
