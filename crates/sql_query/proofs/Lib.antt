@@ -1,4 +1,7 @@
 pub mod Walking
+pub mod Reach
+pub mod Early
+pub mod Counts
 pub mod Apart
 pub mod Orders
 pub mod Merging

@@ -1,6 +1,6 @@
 -- SELECT, as it is computed, is the definition's.
 use Rattle.std.proofs.Common.{◌≡◌, ℕ, zero, suc, ◌+◌, ◌++◌, Bool, true, false, List, [], ◌∷◌, Result, Ok, Err, Option, Some, None, length, refl, ap, ◌∙◌, pos, negsuc}
-use Rattle.std.specs.Prelude.{◌||◌, map, bytes_eq, if◌then◌else◌, slice_get, unwrap_or, nat_le}
+use Rattle.std.specs.Prelude.{◌||◌, map, bytes_eq, if◌then◌else◌, slice_get, unwrap_or}
 use Rattle.std.specs.Cmp.Lexicographic.{pointwise}
 use Rattle.dl_base.specs.declared.answer.Limit.TheVariants as limits
 use Rattle.dl_base.specs.declared.sql_fault.SqlFault.{SqlFault}

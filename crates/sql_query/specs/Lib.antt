@@ -1,5 +1,6 @@
 pub mod Sources
-pub mod Conditions
+pub mod Reach
+pub mod Counting
 pub mod Walking
 pub mod Items
 pub mod Keys

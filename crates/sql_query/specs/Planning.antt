@@ -1,6 +1,6 @@
 -- Steps of a proof, which nobody need read: `selected` over `sources_of` equals `select` of the meaning of statements (`Selecting`).
 -- What is known before a row is looked at, and the rows.
-use Rattle.std.specs.Prelude.{ℕ, ◌++◌, Bool, List, length, map, nat_le, Result, Ok}
+use Rattle.std.specs.Prelude.{ℕ, ◌++◌, Bool, List, Result, Ok}
 use Rattle.dl_base.specs.declared.answer.Limit.TheVariants as limits
 use Rattle.dl_base.specs.declared.sql_fault.SqlFault.{SqlFault}
 use Rattle.dl_base.specs.declared.sql_fault.SqlFault.TheVariants as faults

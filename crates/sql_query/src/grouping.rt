@@ -37,7 +37,8 @@ fn have_aggregate(items: &[Item]) -> bool
     items.iter().any(|item| has_aggregate(&item.expr))
 }
 
-fn has_aggregate(expr: &Expr) -> bool
+/// Whether an aggregate stands in an expression.
+pub(crate) fn has_aggregate(expr: &Expr) -> bool
     ensures { result ≡ meant.has_aggregate expr.now }
 {
     match expr {

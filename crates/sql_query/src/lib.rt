@@ -3,10 +3,12 @@
 
 mod answering;
 mod conditions;
+mod counting;
 mod group_key;
 mod grouping;
 mod items;
 mod joining;
+mod kept;
 mod keys;
 mod ordering;
 mod selecting;

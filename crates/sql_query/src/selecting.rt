@@ -1,12 +1,14 @@
 // SELECT as a whole.
-ghost use Rattle.std.specs.Prelude.{◌≡◌};
-ghost use Rattle.meaning_sql.specs.Faults.{Computes, and_then};
+ghost use Rattle.std.specs.Prelude.{◌≡◌, ◌++◌, true};
+ghost use Rattle.meaning_sql.specs.Faults.{Computes, and_then, option_list};
 ghost use Rattle.meaning_statements.specs.Selecting as meant;
 ghost use Rattle.meaning_statements.specs.Sources as sources_meant;
+ghost use Rattle.sql_query.specs.Answering.{answers_of};
 ghost use Rattle.sql_query.specs.Planning as planning;
 
-use crate::answering::answers;
+use crate::answering::shown;
 use crate::conditions::condition_types;
+use crate::counting::is_counting;
 use crate::grouping::{group_places, scope_of};
 use crate::items::item_types;
 use crate::joining::combined;
@@ -22,8 +24,9 @@ use std::alloc::Global;
 /// The rows that a query gives over tables. It is refused, in this order, by its sources (`NoTable`, `Limit`, `Ambiguous`), by the
 /// types of its expressions in order of text, of GROUP BY and of ORDER BY (`NoColumn`, `Ambiguous`, `TypeFault`), by the number
 /// of its combined rows (`Limit`), and by the values of its conditions, and then of its items (`Overflow`, `ZeroDivide`,
-/// `BadLink`); or there is no `Memory`. Its cost grows with the product of the sources, with the rows that are kept, and as n log n
-/// with the answers that are sorted.
+/// `BadLink`); or there is no `Memory`. A condition is asked as soon as the sources are combined whose columns it and the conditions
+/// before it name, and ends what is behind them: its cost grows with the rows combined so, with the rows that are kept, and as n log n
+/// with the answers that are sorted. Without GROUP BY, and with no aggregate but items that are COUNT(*), one row alone is kept.
 pub fn select(
     alloc: Global,
     tables: &Tables,
@@ -90,12 +93,33 @@ fn answered(
     context: &Context,
     plan: &Plan,
 ) -> Result<List<Row>, SqlFault>
-    requires { columns.now ≡ sources_meant.columns_of sources.now }
+    requires columns { columns.now ≡ sources_meant.columns_of sources.now }
+    requires few { meant.are_few sources.now ≡ true }
     ensures { Computes (λ r. r) result (planning.answered columns.now sources.now query.now context.entry.now plan.now.places plan.now.keys) }
 {
-    let rows = combined(alloc, sources, query, columns, context)?;
-    let made = answers(alloc, query, columns, context, plan.places.as_slice(), rows)?;
+    let places = plan.places.as_slice();
+    let made = rows_shown(alloc, sources, columns, query, context, places)?;
     Ok(sorted(alloc, made, plan.keys.as_slice())?)
+}
+
+// What is shown of the combined rows. Of a query that only counts, the first one alone is kept.
+fn rows_shown(
+    alloc: Global,
+    sources: &[Source],
+    columns: &Columns,
+    query: &Select,
+    context: &Context,
+    places: &[usize],
+) -> Result<List<Row>, SqlFault>
+    requires columns { columns.now ≡ sources_meant.columns_of sources.now }
+    requires few { meant.are_few sources.now ≡ true }
+    ensures { Computes (λ r. r) result (and_then (meant.combined sources.now context.entry.now (query.now.conditions ++ option_list query.now.filter)) (answers_of columns.now context.entry.now query.now places.now)) }
+{
+    let first_alone = is_counting(query, places);
+    match combined(alloc, sources, query, columns, context, first_alone) {
+        Ok(kept) => shown(alloc, query, columns, context, places, kept),
+        Err(fault) => Err(fault),
+    }
 }
 
 // What is known of a query before a row is looked at: the places of its groups, and its keys.
