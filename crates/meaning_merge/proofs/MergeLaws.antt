@@ -1,21 +1,21 @@
 -- What a commit takes away and adds is what its transaction gives and takes: tables that are not touched count for nothing on both sides.
 use Rattle.std.proofs.Common.{◌≡◌, ◌⊎◌, inl, inr, ℕ, List, [], ◌∷◌, ◌++◌, Bool, true, false, not, cond, map, refl, sym, ◌∙◌, ap}
-use Rattle.std.specs.List.{filter, list_any}
+use Rattle.std.specs.List.{filter}
 use Rattle.dl_base.specs.declared.value.LinkRow.{LinkRow}
-use Rattle.meaning_tables.specs.Links.{table_links, links, same_number, lacking, gives, takes}
+use Rattle.meaning_tables.specs.Links.{table_links, links, lacking, gives, takes}
 use Rattle.meaning_tables.specs.Tables.{Rows, Tables}
 use Rattle.meaning_merge.specs.Merging.{as_version}
 use Rattle.meaning_merge.specs.Touching.{is_in, EachLink, Untouched, Touches}
 
-false_true : false ≡ true → ⊥
+pub false_true : false ≡ true → ⊥
 false_true e = cc
 
-either : (b : Bool) → (b ≡ true) ⊎ (b ≡ false)
+pub either : (b : Bool) → (b ≡ true) ⊎ (b ≡ false)
 either true = inl refl
 either false = inr refl
 
 module _ {A : Type 0} (p : A → Bool) where
-  filter-append : (xs ys : List A) → filter p (xs ++ ys) ≡ filter p xs ++ filter p ys
+  pub filter-append : (xs ys : List A) → filter p (xs ++ ys) ≡ filter p xs ++ filter p ys
   filter-append [] ys = refl
   filter-append (x ∷ xs) ys = by (p x) (filter-append xs ys)
     where

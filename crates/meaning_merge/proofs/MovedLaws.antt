@@ -1,7 +1,6 @@
 -- Path by path: the links after a commit, from those before and what it gives and takes.
 use Rattle.std.proofs.Common.{◌≡◌, ◌⊎◌, inl, inr, ⊎_elim, ℕ, ◌==◌, List, [], ◌∷◌, Bool, true, false, not, cond, ◌&&◌, ◌||◌, Option, Some, None, refl, sym, ◌∙◌, ap, subst, arith}
 use Rattle.std.proofs.lemmas.Bool.Decides.{nat_tests}
-use Rattle.std.specs.List.{list_any}
 use Rattle.dl_base.specs.declared.value.LinkRow.{LinkRow}
 use Rattle.meaning_settling.specs.Keyed.{is_at}
 use Rattle.meaning_settling.specs.Settling.{on, held_by}
@@ -9,13 +8,13 @@ use Rattle.meaning_settling.proofs.KeyedLaws.{either, false_true, is_at-same, is
 use Rattle.meaning_tables.specs.Links.{same_number, lacking}
 use Rattle.meaning_merge.specs.Touching.{In, is_in, OnePath}
 
-some_same : (x y : LinkRow) → Some x ≡ Some y → x ≡ y
+pub some_same : (x y : LinkRow) → Some x ≡ Some y → x ≡ y
 some_same x y e = cc
 
-none_some : (x : LinkRow) → None ≡ Some x → ⊥
+pub none_some : (x : LinkRow) → None ≡ Some x → ⊥
 none_some x e = cc
 
-number-self : (x : LinkRow) → same_number x.link x.link ≡ true
+pub number-self : (x : LinkRow) → same_number x.link x.link ≡ true
 number-self x = both (x.link.tx == x.link.tx) (x.link.k == x.link.k) (test x.link.tx) (test x.link.k)
   where
     test : (n : ℕ) → (n == n) ≡ true
@@ -25,7 +24,7 @@ number-self x = both (x.link.tx == x.link.tx) (x.link.k == x.link.k) (test x.lin
     both true b e f = f
     both false b e f = absurd (false_true e)
 
-on-in : (ls : List LinkRow) (p : List ℕ) (l : LinkRow) → on ls p ≡ Some l → In l ls × (l.path ≡ p)
+pub on-in : (ls : List LinkRow) (p : List ℕ) (l : LinkRow) → on ls p ≡ Some l → In l ls × (l.path ≡ p)
 on-in [] p l e = absurd (none_some l e)
 on-in (x ∷ xs) p l e = ⊎_elim
     (λ (here : is_at p x.path ≡ true).
@@ -34,14 +33,14 @@ on-in (x ∷ xs) p l e = ⊎_elim
     (λ (there : is_at p x.path ≡ false). let more = on-in xs p l (sym (ap (λ b. cond b (Some x) (on xs p)) there) ∙ e) in (inr more.0, more.1))
     (either (is_at p x.path))
 
-in-on : (ls : List LinkRow) (l : LinkRow) → OnePath ls → In l ls → on ls l.path ≡ Some l
+pub in-on : (ls : List LinkRow) (l : LinkRow) → OnePath ls → In l ls → on ls l.path ≡ Some l
 in-on [] l one is = absurd is
 in-on (x ∷ xs) l one is = ⊎_elim
     (λ (e : l ≡ x). ap (λ b. cond b (Some x) (on xs l.path)) (ap (λ (y : LinkRow). is_at y.path x.path) e ∙ is_at-self x.path) ∙ ap (λ (y : LinkRow). Some y) (sym e))
     (λ (later : In l xs). ap (λ b. cond b (Some x) (on xs l.path)) (one.0 l later) ∙ in-on xs l one.1 later)
     is
 
-none-in : (ls : List LinkRow) (l : LinkRow) → on ls l.path ≡ None → In l ls → ⊥
+pub none-in : (ls : List LinkRow) (l : LinkRow) → on ls l.path ≡ None → In l ls → ⊥
 none-in [] l e is = is
 none-in (x ∷ xs) l e is = ⊎_elim
     (λ (here : is_at l.path x.path ≡ true). none_some x (sym (sym (ap (λ b. cond b (Some x) (on xs l.path)) here) ∙ e)))
@@ -52,7 +51,7 @@ none-in (x ∷ xs) l e is = ⊎_elim
     (either (is_at l.path x.path))
 
 -- a link of a list whose number the other has, or has not
-in-lacking : (xs ys : List LinkRow) (l : LinkRow) → In l xs → is_in ys l ≡ false → In l (lacking xs ys)
+pub in-lacking : (xs ys : List LinkRow) (l : LinkRow) → In l xs → is_in ys l ≡ false → In l (lacking xs ys)
 in-lacking [] ys l is e = is
 in-lacking (x ∷ xs) ys l is e = ⊎_elim
     (λ (same : l ≡ x). here (not (is_in ys x)) (ap (λ b. not b) (ap (is_in ys) (sym same) ∙ e)) same)
@@ -67,7 +66,7 @@ in-lacking (x ∷ xs) ys l is e = ⊎_elim
     there true h = inr h
     there false h = h
 
-lacking-in : (xs ys : List LinkRow) (l : LinkRow) → In l (lacking xs ys) → In l xs × (is_in ys l ≡ false)
+pub lacking-in : (xs ys : List LinkRow) (l : LinkRow) → In l (lacking xs ys) → In l xs × (is_in ys l ≡ false)
 lacking-in [] ys l is = absurd is
 lacking-in (x ∷ xs) ys l is = by (is_in ys x) refl is (λ h. lacking-in xs ys l h)
   where
@@ -75,14 +74,14 @@ lacking-in (x ∷ xs) ys l is = by (is_in ys x) refl is (λ h. lacking-in xs ys 
     by true e h go = let more = go h in (inr more.0, more.1)
     by false e h go = ⊎_elim (λ (same : l ≡ x). (inl same, ap (is_in ys) same ∙ e)) (λ later. (let more = go later in (inr more.0, more.1))) h
 
-has-number : (ys : List LinkRow) (l : LinkRow) → is_in ys l ≡ true → (y : LinkRow) × In y ys × (same_number l.link y.link ≡ true)
+pub has-number : (ys : List LinkRow) (l : LinkRow) → is_in ys l ≡ true → (y : LinkRow) × In y ys × (same_number l.link y.link ≡ true)
 has-number [] l e = absurd (false_true e)
 has-number (y ∷ ys) l e = ⊎_elim
     (λ (here : same_number l.link y.link ≡ true). (y, inl refl, here))
     (λ (there : same_number l.link y.link ≡ false). (let more = has-number ys l (sym (ap (λ b. b || is_in ys l) there) ∙ e) in (more.0, inr more.1, more.2)))
     (either (same_number l.link y.link))
 
-in-number : (ys : List LinkRow) (l : LinkRow) → In l ys → is_in ys l ≡ true
+pub in-number : (ys : List LinkRow) (l : LinkRow) → In l ys → is_in ys l ≡ true
 in-number [] l is = absurd is
 in-number (y ∷ ys) l is = ⊎_elim
     (λ (same : l ≡ y). or-left (same_number l.link y.link) (is_in ys l) (ap (λ (z : LinkRow). same_number l.link z.link) (sym same) ∙ number-self l))

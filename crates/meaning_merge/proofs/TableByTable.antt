@@ -1,5 +1,5 @@
 -- What a merge leaves under each name.
-use Rattle.std.proofs.Common.{◌≡◌, ◌⊎◌, inl, inr, ⊎_elim, ℕ, ◌==◌, List, [], ◌∷◌, ◌++◌, Bool, true, false, cond, bytes_eq, map, Option, Some, None, refl, sym, ◌∙◌, ap}
+use Rattle.std.proofs.Common.{◌≡◌, ⊎_elim, ℕ, ◌==◌, List, [], ◌∷◌, ◌++◌, Bool, true, false, cond, bytes_eq, map, Option, Some, None, refl, sym, ◌∙◌, ap}
 use Rattle.std.specs.List.{filter, filter_map, cons_option}
 use Rattle.std.specs.Option.{option_or}
 use Rattle.std.proofs.lemmas.Slice.Eq.{bytes_eq-Decides}
@@ -7,7 +7,7 @@ use Rattle.meaning_settling.proofs.KeyedLaws.{either}
 use Rattle.meaning_tables.specs.Tables.{Rows, Tables, table_of}
 use Rattle.meaning_merge.specs.Merging.{Fate, stays, goes, becomes, fate_of, as_version, by_fate, new_ones, merge, kept_at, new_at, merged_at, AreNamed}
 
-table_of-append : (ts us : Tables) (name : List ℕ) → table_of (ts ++ us) name ≡ option_or (table_of ts name) (table_of us name)
+pub table_of-append : (ts us : Tables) (name : List ℕ) → table_of (ts ++ us) name ≡ option_or (table_of ts name) (table_of us name)
 table_of-append [] us name = refl
 table_of-append (t ∷ ts) us name = by (bytes_eq name t.0) (table_of-append ts us name)
   where
@@ -16,14 +16,14 @@ table_of-append (t ∷ ts) us name = by (bytes_eq name t.0) (table_of-append ts 
     by false e = e
 
 -- where a name is found, no later table has it
-alone : (t : List ℕ × Rows) (ts : Tables) (name : List ℕ) → table_of ts t.0 ≡ None → bytes_eq name t.0 ≡ true → table_of ts name ≡ None
+pub alone : (t : List ℕ × Rows) (ts : Tables) (name : List ℕ) → table_of ts t.0 ≡ None → bytes_eq name t.0 ≡ true → table_of ts name ≡ None
 alone t ts name none here = ap (table_of ts) ((bytes_eq-Decides name t.0).0 here) ∙ none
 
 module _ (c : ℕ) (fate : List ℕ → Fate) where
-  abbrev kept : Tables → Tables
+  abbrev pub kept : Tables → Tables
   kept ts = filter_map (λ t. by_fate c t (fate t.0)) ts
 
-  none-kept : (ts : Tables) (name : List ℕ) → table_of ts name ≡ None → table_of (kept ts) name ≡ None
+  pub none-kept : (ts : Tables) (name : List ℕ) → table_of ts name ≡ None → table_of (kept ts) name ≡ None
   none-kept [] name e = refl
   none-kept (t ∷ ts) name e = by (bytes_eq name t.0) refl (fate t.0) (λ none. none-kept ts name none)
     where
@@ -36,7 +36,7 @@ module _ (c : ℕ) (fate : List ℕ → Fate) where
       by b is goes go = let two = rest (bytes_eq name t.0) e in go two.1
       by b is (becomes later) go = let two = rest (bytes_eq name t.0) e in ap (λ x. cond x (Some (as_version c later)) (table_of (filter_map (λ u. by_fate c u (fate u.0)) ts) name)) two.0 ∙ go two.1
 
-  kept-table : (ts : Tables) (name : List ℕ) → AreNamed ts → table_of (kept ts) name ≡ kept_at c (table_of ts name) (fate name)
+  pub kept-table : (ts : Tables) (name : List ℕ) → AreNamed ts → table_of (kept ts) name ≡ kept_at c (table_of ts name) (fate name)
   kept-table [] name named = refl
   kept-table (t ∷ ts) name named = ⊎_elim
       (λ (here : bytes_eq name t.0 ≡ true).
@@ -57,7 +57,7 @@ module _ (c : ℕ) (fate : List ℕ → Fate) where
       passed (becomes later) there = ap (λ x. cond x (Some (as_version c later)) (table_of (filter_map (λ u. by_fate c u (fate u.0)) ts) name)) there
 
 module _ (c : ℕ) where
-  none-new : (ts : Tables) (name : List ℕ) → table_of ts name ≡ None → table_of (new_ones c ts) name ≡ None
+  pub none-new : (ts : Tables) (name : List ℕ) → table_of ts name ≡ None → table_of (new_ones c ts) name ≡ None
   none-new [] name e = refl
   none-new (t ∷ ts) name e = by (t.1.version == 0) (rest (bytes_eq name t.0) e) (λ none. none-new ts name none)
     where
@@ -70,7 +70,7 @@ module _ (c : ℕ) where
       by true two go = ap (λ x. cond x (Some (as_version c t.1)) (table_of (new_ones c ts) name)) two.0 ∙ go two.1
       by false two go = go two.1
 
-  new-table : (ts : Tables) (name : List ℕ) → AreNamed ts → table_of (new_ones c ts) name ≡ new_at c (table_of ts name)
+  pub new-table : (ts : Tables) (name : List ℕ) → AreNamed ts → table_of (new_ones c ts) name ≡ new_at c (table_of ts name)
   new-table [] name named = refl
   new-table (t ∷ ts) name named = ⊎_elim
       (λ (here : bytes_eq name t.0 ≡ true). found (t.1.version == 0) here (none-new ts name (alone t ts name named.0 here)) ∙ sym (ap (λ x. new_at c (cond x (Some t.1) (table_of ts name))) here))
