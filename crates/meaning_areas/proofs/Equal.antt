@@ -1,5 +1,5 @@
 -- The tests of equality decide equality.
-use Rattle.std.proofs.Common.{◌≡◌, ℕ, ◌==◌, ◌&&◌, Bool, true, false, List, Option, Some, None, bytes_eq, refl, sym, ◌∙◌, ap}
+use Rattle.std.proofs.Common.{◌≡◌, ℕ, ◌==◌, ◌&&◌, Bool, true, false, List, [], ◌∷◌, Option, Some, None, bytes_eq, refl, sym, ◌∙◌, ap}
 use Rattle.std.proofs.lemmas.Bool.Decides.{Decides-eqb, Decides-int_eq}
 use Rattle.std.proofs.lemmas.Slice.Eq.{bytes_eq-Decides}
 use Rattle.std.specs.Bool.{Decides}
@@ -18,12 +18,16 @@ use Rattle.dl_base.specs.declared.column.WriteBy.{WriteBy}
 use Rattle.dl_base.specs.declared.column.WriteBy.TheVariants as write
 use Rattle.dl_base.specs.declared.value.Dl.{Dl}
 use Rattle.dl_base.specs.declared.value.LinkNo.{LinkNo}
+use Rattle.dl_base.specs.declared.value.LinkRow.{LinkRow}
 use Rattle.dl_base.specs.declared.value.Row.{Row}
 use Rattle.dl_base.specs.declared.value.Value.{Value}
 use Rattle.dl_base.specs.declared.value.Value.TheVariants as values
+use Rattle.meaning_settling.specs.Keyed.{is_at}
+use Rattle.meaning_settling.specs.Settling.{link_key}
+use Rattle.meaning_settling.proofs.KeyedLaws.{is_at-same, is_at-self}
 use Rattle.meaning_tables.specs.Links.{same_number}
 use Rattle.meaning_tables.specs.Tables.{Rows, Tables}
-use Rattle.meaning_areas.specs.Same.{read_number, write_number, unlink_number, same_truth, same_options, same_option, same_value, same_row, same_kind, rule_number, same_column, same_columns, same_rows, same_tables}
+use Rattle.meaning_areas.specs.Same.{read_number, write_number, unlink_number, same_truth, same_options, same_link, same_option, same_value, same_row, same_kind, rule_number, same_column, same_columns, same_rows, same_tables}
 
 wrong : {P : Type 0} → false ≡ true → P
 wrong e = absurd (no e)
@@ -101,7 +105,7 @@ number-self n = (Decides-eqb n n).1 refl
 bytes-self : (xs : List ℕ) → bytes_eq xs xs ≡ true
 bytes-self xs = (bytes_eq-Decides xs xs).1 refl
 
-options-decide : (a b : Options) → Decides (same_options a b) (a ≡ b)
+pub options-decide : (a b : Options) → Decides (same_options a b) (a ≡ b)
 options-decide = decided same_options
     (λ o. all _ _ (all _ _ (all _ _ (number-self (read_number o.read)) (number-self (write_number o.write))) (truth-self o.recovery)) (number-self (unlink_number o.unlink)))
     (λ a b e.
@@ -210,3 +214,23 @@ pub tables-decide : (a b : Tables) → Decides (same_tables a b) (a ≡ b)
 tables-decide a b = pointwise_decides {E = λ x y. bytes_eq x.0 y.0 && same_rows x.1 y.1} (decided (λ x y. bytes_eq x.0 y.0 && same_rows x.1 y.1)
     (λ t. all _ _ (bytes-self t.0) (self same_rows rows-decide t.1))
     (λ x y e. (let one = both (bytes_eq x.0 y.0) (same_rows x.1 y.1) e in λ i. ((bytes_eq-Decides x.0 y.0).0 one.0 i, (rows-decide x.1 y.1).0 one.1 i)))) a b
+
+-- THE SAME LINK is one link
+
+pub number-same : (a b : LinkNo) → link_key a ≡ link_key b → a ≡ b
+number-same a b key = λ i. record { tx = first a.tx (a.k ∷ []) b.tx (b.k ∷ []) key i; k = first a.k [] b.k [] (rest a.tx (a.k ∷ []) b.tx (b.k ∷ []) key) i }
+  where
+    first : (x : ℕ) (xs : List ℕ) (y : ℕ) (ys : List ℕ) → x ∷ xs ≡ y ∷ ys → x ≡ y
+    first x xs y ys e = cc e
+
+    rest : (x : ℕ) (xs : List ℕ) (y : ℕ) (ys : List ℕ) → x ∷ xs ≡ y ∷ ys → xs ≡ ys
+    rest x xs y ys e = cc e
+
+row-link-same : (a b : LinkRow) → same_link a b ≡ true → a ≡ b
+row-link-same a b e =
+    let one = both (is_at (link_key a.link) (link_key b.link) && is_at a.path b.path) (same_options a.options b.options) e in
+    let two = both (is_at (link_key a.link) (link_key b.link)) (is_at a.path b.path) one.0 in
+    λ i. record { link = number-same a.link b.link (is_at-same (link_key a.link) (link_key b.link) two.0) i; path = is_at-same a.path b.path two.1 i; options = (options-decide a.options b.options).0 one.1 i }
+
+pub row-link-decides : (a b : LinkRow) → Decides (same_link a b) (a ≡ b)
+row-link-decides = decided same_link (λ l. all _ _ (all _ _ (is_at-self (link_key l.link)) (is_at-self l.path)) (self same_options options-decide l.options)) row-link-same

@@ -39,7 +39,7 @@ use Rattle.meaning_areas.proofs.Steps.{agrees-of}
 false_true : false ≡ true → ⊥
 false_true e = cc
 
-folds-append : (o : Option Folds) (xs ys : List Written) → folds_on o (xs ++ ys) ≡ folds_on (folds_on o xs) ys
+pub folds-append : (o : Option Folds) (xs ys : List Written) → folds_on o (xs ++ ys) ≡ folds_on (folds_on o xs) ys
 folds-append o [] ys = refl
 folds-append o (x ∷ xs) ys = folds-append (option_and_then (λ (f : Folds). folds_step f x) o) xs ys
 

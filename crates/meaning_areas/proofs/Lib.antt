@@ -12,6 +12,10 @@ pub mod NextRecord
 pub mod Whole
 pub mod Votes
 pub mod Restored
+pub mod Taking
 pub mod FinishList
 pub mod Ordered
 pub mod Equal
+pub mod Archived
+pub mod Untouched
+pub mod Refiled

@@ -12,21 +12,47 @@ stand-compared f s stand a = at a (let P : Stored → Type 0 = λ x. IsWhole x i
   where
     at : (a : Area) → IsWhole (stored_of f) → ComparesAt f a
     at areas.Rows whole = tt
-    at areas.Links whole = (stand.compares, whole.paths, whole.one_path)
+    at areas.Links whole = (
+      record {
+        distinct = stand.compares.distinct;
+        branches = stand.compares.branches;
+        decided = stand.compares.decided;
+        ended = stand.compares.ended;
+        apart = stand.compares.apart;
+        held = stand.compares.held;
+        numbers = stand.compares.numbers;
+        drawn_commits = stand.compares.drawn_commits;
+        drawn_branches = stand.compares.drawn_branches;
+        ready = tt;
+      },
+      whole.paths,
+      whole.one_path,
+    )
     at areas.Files whole = whole.files
-    at areas.Archive whole = (whole.copies, whole.archived, whole.bytes)
+    at areas.Archive whole = (stand.compares.ready, whole.copies, whole.archived, whole.bytes)
     at areas.Backups whole = whole.backups
 
 pub compared-stand : (f : Folds) → ((a : Area) → ComparesAt f a) → IsStand f (stored_of f)
 compared-stand f at = record {
-  compares = (at areas.Links).0;
+  compares = record {
+    distinct = (at areas.Links).0.distinct;
+    branches = (at areas.Links).0.branches;
+    decided = (at areas.Links).0.decided;
+    ended = (at areas.Links).0.ended;
+    apart = (at areas.Links).0.apart;
+    held = (at areas.Links).0.held;
+    numbers = (at areas.Links).0.numbers;
+    drawn_commits = (at areas.Links).0.drawn_commits;
+    drawn_branches = (at areas.Links).0.drawn_branches;
+    ready = (at areas.Archive).0;
+  };
   whole = record {
     paths = (at areas.Links).1;
     one_path = (at areas.Links).2;
     files = at areas.Files;
-    copies = (at areas.Archive).0;
-    archived = (at areas.Archive).1;
-    bytes = (at areas.Archive).2;
+    copies = (at areas.Archive).1;
+    archived = (at areas.Archive).2;
+    bytes = (at areas.Archive).3;
     backups = at areas.Backups;
   };
   is = refl;

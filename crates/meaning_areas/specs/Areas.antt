@@ -1,5 +1,5 @@
 -- What the bytes of the five areas stand for: each list by its fold, and then what is compared, in order.
-use Rattle.std.specs.Prelude.{◌≡◌, ◌⊎◌, ℕ, ◌+◌, ◌<◌, List, [], Option, Result, Ok, Err}
+use Rattle.std.specs.Prelude.{⊤, ◌≡◌, ◌⊎◌, ℕ, ◌+◌, ◌<◌, List, [], Option, Result, Ok, Err}
 use Rattle.std.specs.Option.{option_and_then}
 use Rattle.dl_base.specs.Areas.{area_number}
 use Rattle.dl_base.specs.declared.area.Area.{Area}
@@ -17,7 +17,7 @@ use Rattle.meaning_areas.specs.Copies.{Backup, copies_step, backups_step}
 use Rattle.meaning_areas.specs.FilesArea.{files_of}
 use Rattle.meaning_areas.specs.Folds.{folded}
 use Rattle.meaning_areas.specs.Lists.{Folds, no_folds}
-use Rattle.meaning_areas.specs.Stands.{Stored, stored_of, Compares, HavePaths, AreOneLink, HaveFiles, AreOfLinks, AreArchived, HaveBytes, AreOfPast, IsStand}
+use Rattle.meaning_areas.specs.Stands.{Stored, stored_of, Compared, AreReady, HavePaths, AreOneLink, HaveFiles, AreOfLinks, AreArchived, HaveBytes, AreOfPast, IsStand}
 
 -- the bytes of the five areas
 pub record Areas : Type 0 where
@@ -88,9 +88,9 @@ folds_of x =
 -- WHAT IS COMPARED at each area, once all are folded
 abbrev pub ComparesAt : Folds → Area → Type 0
 ComparesAt f areas.Rows = Unit {0}
-ComparesAt f areas.Links = Compares f × HavePaths (stored_of f) × AreOneLink (stored_of f)
+ComparesAt f areas.Links = Compared f ⊤ × HavePaths (stored_of f) × AreOneLink (stored_of f)
 ComparesAt f areas.Files = HaveFiles (stored_of f)
-ComparesAt f areas.Archive = AreOfLinks (stored_of f) × AreArchived (stored_of f) × HaveBytes (stored_of f)
+ComparesAt f areas.Archive = AreReady f × AreOfLinks (stored_of f) × AreArchived (stored_of f) × HaveBytes (stored_of f)
 ComparesAt f areas.Backups = AreOfPast (stored_of f)
 
 -- the first area at which the comparison fails

@@ -82,6 +82,10 @@ core_finished c tx m = record { commits = c.commits; files = (settle_one m (core
 abbrev pub core_kept_as : Core → Files → Copies → Core
 core_kept_as c files copies = record { commits = c.commits; files = files; copies = copies; backups = c.backups; rows_opening = c.rows_opening; links_opening = c.links_opening; works = c.works; drawn = c.drawn }
 
+-- a restore to tables without other links: a commit of a transaction that is begun and ended with it
+abbrev pub core_restored : Core → Commit → Core
+core_restored c d = record { commits = c.commits ++ d ∷ []; files = c.files; copies = c.copies; backups = c.backups; rows_opening = c.rows_opening; links_opening = c.links_opening; works = c.works; drawn = c.drawn + 1 }
+
 abbrev pub core_backed_up : Core → Backup → Core
 core_backed_up c b = record { commits = c.commits; files = c.files; copies = c.copies; backups = c.backups ++ b ∷ []; rows_opening = c.rows_opening; links_opening = c.links_opening; works = c.works; drawn = c.drawn }
 

@@ -4,7 +4,9 @@ ghost use Rattle.std.specs.Bool.{Decides};
 ghost use Rattle.std.specs.FinMap as maps;
 ghost use Rattle.std.specs.List.{list_any};
 ghost use Rattle.dl_base.specs.declared.area.Area as kinds;
+ghost use Rattle.dl_base.specs.declared.file.File as files;
 ghost use Rattle.dl_base.specs.declared.value.LinkRow as rows;
+ghost use Rattle.dl_codec.specs.declared.archive.ArchiveRecord.TheVariants as archive_records;
 ghost use Rattle.dl_codec.specs.declared.links.BranchPhase.TheVariants as phases;
 ghost use Rattle.dl_codec.specs.declared.links.LinksRecord.TheVariants as links_records;
 ghost use Rattle.dl_codec.specs.declared.links.Taken as taking;
@@ -12,19 +14,19 @@ ghost use Rattle.dl_codec.specs.declared.rows.RowsRecord.TheVariants as rows_rec
 ghost use Rattle.meaning_files.specs.Files.{Files};
 ghost use Rattle.meaning_settling.specs.Apart.{IsReady, has_path};
 ghost use Rattle.meaning_settling.specs.Keyed.{is_at};
-ghost use Rattle.meaning_settling.specs.Settling.{Copies, Kept, Moved, held_after, on, settle_one};
+ghost use Rattle.meaning_settling.specs.Settling.{Copies, Kept, Moved, copy_of, held_after, link_key, on, settle_one};
 ghost use Rattle.meaning_tables.specs.Links.{links};
 ghost use Rattle.meaning_tables.specs.Tables.{Rows, Tables};
 ghost use Rattle.meaning_areas.specs.Areas.{Areas, AreasStand, ComparesAt, StandForNothing};
-ghost use Rattle.meaning_areas.specs.Branches.{branch, links_step, with_branch};
-ghost use Rattle.meaning_areas.specs.Commits.{Commit, commit_of, has_number, tables_after};
-ghost use Rattle.meaning_areas.specs.Copies.{Backup};
+ghost use Rattle.meaning_areas.specs.Branches.{Branches, branch, links_step, with_branch};
+ghost use Rattle.meaning_areas.specs.Commits.{Commit, Commits, commit_of, has_number, rows_step, tables_after, with_ended};
+ghost use Rattle.meaning_areas.specs.Copies.{Backup, copies_step};
 ghost use Rattle.meaning_areas.specs.Core.{Core, Work, active, core_stored, decided, decided_in, prepared};
-ghost use Rattle.meaning_areas.specs.Finishing.{AreNumbered, finish_records, next_record};
+ghost use Rattle.meaning_areas.specs.Finishing.{AreNumbered, file_copy, finish_records, next_record};
 ghost use Rattle.meaning_areas.specs.Joint.{Joint};
 ghost use Rattle.meaning_areas.specs.Lists.{Folds, folds_on, in_links, in_rows};
 ghost use Rattle.meaning_areas.specs.Merges.{Merges};
-ghost use Rattle.meaning_areas.specs.Moving.{IsClaim, Stays, at_stage, core_at, core_backed_up, core_begun, core_database, core_decided, core_finished, core_kept_as, core_manager, core_opened, with_backup, with_decision, with_finish, with_kept, with_links_opening, with_rows_opening, with_table};
+ghost use Rattle.meaning_areas.specs.Moving.{IsClaim, Stays, at_stage, core_at, core_backed_up, core_begun, core_database, core_decided, core_finished, core_kept_as, core_manager, core_opened, core_restored, with_backup, with_decision, with_finish, with_kept, with_links_opening, with_rows_opening, with_table};
 ghost use Rattle.meaning_areas.specs.Same.{same_link, same_rows, same_tables};
 ghost use Rattle.meaning_areas.specs.Stands.{AreDrawn, Compares, IsStand, IsWhole, Stored, kept_of, past, stored_of, stored_with};
 
@@ -87,6 +89,22 @@ pub fn prepared_of_a_claim_is_taken()
     ensures { (f : Folds) (c : Core) (tx : ℕ) (w : Work) (takes : List taking.Taken) → Joint f c → c.works tx ≡ Some w → w.stage ≡ active → IsClaim c w.moved takes
         → ((g : rows.LinkRow) → list_any (same_link g) w.moved.gives ≡ true → has_path w.moved g.path ≡ true) → ((t : taking.Taken) → list_any (λ u. is_at t.link.path u.link.path) takes ≡ true → has_path w.moved t.link.path ≡ true)
         → links_step f.links (links_records.Prepared tx w.moved.gives takes) ≡ Some (with_branch f.links tx (branch w.moved phases.Prepared)) }
+{}
+
+/// The folds take an opening with the next number, the Ended of a commit with a branch that has none, and the archived copy of a
+/// link that has none.
+pub fn openings_ends_and_copies_are_taken()
+    ensures rows { (r : Commits) → rows_step r (rows_records.Opening (r.opening + 1)) ≡ Some (record { opening = r.opening + 1; commits = r.commits; ended = r.ended }) }
+    ensures links { (l : Branches) → links_step l (links_records.Opening (l.opening + 1)) ≡ Some (record { opening = l.opening + 1; table = l.table; held = l.held }) }
+    ensures ended { (r : Commits) (tx : ℕ) (c : Commit) → commit_of tx r.commits ≡ Some c → c.branch ≡ true → has_number tx r.ended ≡ false → rows_step r (rows_records.Ended tx) ≡ Some (with_ended r tx) }
+    ensures copied { (copies : Copies) (l : rows.LinkRow) (f : files.File) → maps.get copies (link_key l.link) ≡ None → copies_step copies (archive_records.Copy (file_copy l f)) ≡ Some (maps.insert copies (link_key l.link) (copy_of f)) }
+{}
+
+/// A restore that gives and takes no link is one commit, of a transaction that is begun and ended with it.
+pub fn a_restore_without_links_is_one_commit()
+    ensures { (f : Folds) (c : Core) (d : Commit) → Joint f c → c.drawn + 1 < (c.rows_opening + 1) * 2 ^ 32 → d.tx ≡ c.drawn + 1 → d.branch ≡ false → d.gives ≡ [] → d.takes ≡ []
+        → ((p : List ℕ) → on (links d.tables) p ≡ on (links (tables_after [] f.rows.commits)) p) → AreDrawn f.rows.opening (links d.tables) → IsWhole (core_stored (core_restored c d))
+        → Joint (with_decision f d) (core_restored c d) }
 {}
 
 /// A commit whose links come from those before as `Merges` says, and a backup of the last commit, leave a whole stored part whole.

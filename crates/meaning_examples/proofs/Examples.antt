@@ -1,5 +1,5 @@
 -- Worked rows: what the machine answers, and that the lists with all that was written stand for the state.
-use Rattle.std.proofs.Common.{◌≡◌, ℕ, ◌+◌, ◌-◌, ◌*◌, ◌^◌, Bool, true, false, List, [], ◌∷◌, ◌++◌, codes, Option, Some, None, refl, pos, map, cond, replicate, take, length}
+use Rattle.std.proofs.Common.{◌≡◌, ℕ, ◌+◌, ◌-◌, ◌*◌, ◌^◌, Bool, true, false, List, [], ◌∷◌, ◌++◌, codes, Option, Some, None, refl, pos, map, cond, is_some, replicate, take, length}
 use Rattle.std.specs.Option.{option_and_then}
 use Rattle.meaning_examples.specs.Maps as maps
 use Rattle.dl_base.specs.declared.answer.Answer.{Answer}
@@ -40,8 +40,9 @@ use Rattle.dl_base.specs.declared.answer.Why.{Why}
 use Rattle.meaning_examples.specs.Lists.{Folds, Written, in_rows, in_links, in_files, in_archive, in_backups, no_folds, folds_on, folds_step}
 use Rattle.meaning_examples.specs.Copies.{Backup}
 use Rattle.meaning_examples.specs.Stands.{Stored, stored_of, txs_of}
+use Rattle.meaning_examples.specs.Apart.{has_key, has_path}
 use Rattle.meaning_examples.specs.Keyed.{Keyed}
-use Rattle.meaning_examples.specs.Settling.{Copy, settle_one}
+use Rattle.meaning_examples.specs.Settling.{Copy, Moved, settle_one}
 use Rattle.meaning_tables.specs.Tables.{Rows, Tables, new_table, table_of, with_table, with_inserted, without_table}
 use Rattle.meaning_examples.specs.Claims.{by_evaluated, with_names}
 use Rattle.meaning_examples.specs.Machine.{step, stated, start}
@@ -497,3 +498,26 @@ target-order = refl
 
 restored-order : map tx_of (takes reversed (restored_tables reversed target 7)) ≡ 2 ∷ 1 ∷ []
 restored-order = refl
+
+-- TWO BRANCHES IN DOUBT WITH ONE LINK NUMBER, on different paths and without commits: no fold refuses them, and there is nothing that
+-- the other comparisons could compare. That such branches have no number in common is asked for itself.
+abbrev shared_take : List ℕ → LinkRow
+shared_take path = record { link = record { tx = 1; k = 1 }; path = path; options = o1 }
+
+abbrev shared_prepared : ℕ → List ℕ → Written
+shared_prepared tx path = in_links (links_records.Prepared tx [] (record { link = shared_take path; fill = false } ∷ []))
+
+abbrev shared_lists : List Written
+shared_lists = in_rows (rows_records.Opening 1) ∷ in_links (links_records.Opening 1) ∷ shared_prepared 1 (codes "/a") ∷ shared_prepared 2 (codes "/b") ∷ []
+
+abbrev shared_moved : List ℕ → Moved
+shared_moved path = record { gives = []; takes = shared_take path ∷ []; fill = false }
+
+shared-taken : is_some (folds_on (Some no_folds) shared_lists) ≡ true
+shared-taken = refl
+
+shared-number : (has_key (shared_moved (codes "/a")) (1 ∷ 1 ∷ []) ≡ true) × (has_key (shared_moved (codes "/b")) (1 ∷ 1 ∷ []) ≡ true)
+shared-number = (refl, refl)
+
+shared-paths : (has_path (shared_moved (codes "/a")) (codes "/b") ≡ false) × (has_path (shared_moved (codes "/b")) (codes "/a") ≡ false)
+shared-paths = (refl, refl)

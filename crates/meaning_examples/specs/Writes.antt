@@ -1,7 +1,7 @@
 -- What steps and openings write.
-use Rattle.std.specs.Prelude.{ℕ, ◌+◌, ◌&&◌, Bool, true, false, not, if◌then◌else◌, List, [], ◌∷◌, ◌++◌, length, filter, map, is_none, Option, Some, None}
+use Rattle.std.specs.Prelude.{ℕ, ◌+◌, ◌&&◌, Bool, true, false, not, if◌then◌else◌, List, [], ◌∷◌, ◌++◌, length, map, is_none, Option, Some, None}
 use Rattle.meaning_examples.specs.Maps as maps
-use Rattle.std.specs.List.{flat_map}
+use Rattle.std.specs.List.{find, flat_map}
 use Rattle.std.specs.Option.{unwrap_or}
 use Rattle.dl_base.specs.declared.answer.Answer.{Answer}
 use Rattle.dl_base.specs.declared.answer.Answer.TheVariants as answers
@@ -27,8 +27,8 @@ use Rattle.meaning_examples.specs.Commits.{Commit, commit_of}
 use Rattle.meaning_examples.specs.Finishing.{file_copy, finish_records}
 use Rattle.meaning_examples.specs.Lists.{Folds, Written, in_rows, in_links, in_files, in_archive, in_backups, folds_on}
 use Rattle.meaning_examples.specs.Stands.{is_open, kept_of}
-use Rattle.meaning_examples.specs.Settling.{Moved, Kept}
-use Rattle.meaning_tables.specs.Links.{same_number}
+use Rattle.meaning_examples.specs.Keyed.{is_at}
+use Rattle.meaning_examples.specs.Settling.{Moved, Kept, link_key}
 use Rattle.meaning_tables.specs.Tables.{Rows, Tables}
 use Rattle.meaning_examples.specs.Commands.{command_changes}
 use Rattle.meaning_examples.specs.Machine.{step, next_commit, restore_moved, restore_to, target_tables, drawing, is_left_in, finish_left}
@@ -87,8 +87,12 @@ abbrev pub copy_list : LinkRow → Option File → List Written
 copy_list l None = []
 copy_list l (Some f) = in_archive (archive_records.Copy (file_copy l f)) ∷ []
 
+abbrev pub archive_list : State → Option LinkRow → List Written
+archive_list s None = []
+archive_list s (Some l) = copy_list l (maps.get s.files l.path)
+
 abbrev pub archive_writes : State → LinkNo → Answer → List Written
-archive_writes s n answer = when (not (is_refused answer)) (flat_map (λ l. copy_list l (maps.get s.files l.path)) (filter (λ l. same_number l.link n) (machine.pending s)))
+archive_writes s n answer = when (not (is_refused answer)) (archive_list s (find (λ l. is_at (link_key n) (link_key l.link)) (machine.pending s)))
 
 abbrev pub image_of : List ℕ × Rows → TableImage
 image_of t = record { name = t.0; version = t.1.version; columns = t.1.columns; next = t.1.next; rows = map (λ r. (r.0, r.1.values)) t.1.rows }

@@ -25,7 +25,7 @@ empty-list : {A : Type 0} (xs : List A) → is_empty xs ≡ true → xs ≡ []
 empty-list [] e = refl
 empty-list (x ∷ xs) e = absurd cc
 
-no-links : (m : Moved) → has_links m ≡ false → (m.gives ≡ []) × (m.takes ≡ [])
+pub no-links : (m : Moved) → has_links m ≡ false → (m.gives ≡ []) × (m.takes ≡ [])
 no-links m e = let two = parts (is_empty m.gives) (is_empty m.takes) e in (empty-list m.gives two.0, empty-list m.takes two.1)
   where
     parts : (a b : Bool) → not (a && b) ≡ false → (a ≡ true) × (b ≡ true)
@@ -37,7 +37,7 @@ settle-nothing : (fill : Bool) (k : Kept) → settle_one (record { gives = []; t
 unfolding settle_one
 settle-nothing fill k = refl
 
-settle-empty : (m : Moved) (k : Kept) → has_links m ≡ false → settle_one m k ≡ k
+pub settle-empty : (m : Moved) (k : Kept) → has_links m ≡ false → settle_one m k ≡ k
 settle-empty m k e =
     let two = no-links m e in
     ap (λ (x : Moved). settle_one x k) (λ i. record { gives = two.0 i; takes = two.1 i; fill = m.fill }) ∙ settle-nothing m.fill k

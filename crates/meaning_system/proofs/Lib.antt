@@ -2,3 +2,14 @@ pub mod Cores
 pub mod Stepping
 pub mod Crashing
 pub mod Resolving
+pub mod Records
+pub mod Leading
+pub mod Resolved
+pub mod Archiving
+pub mod Kept
+pub mod Decided
+pub mod Claiming
+pub mod Commanding
+pub mod Refolding
+pub mod Fitting
+pub mod Holding

@@ -20,7 +20,7 @@ use Rattle.meaning_system.specs.State.{Txn, State, moved_of, is_prepared, is_dec
 
 -- settling what has nothing open
 
-settled-none : (f : ℕ → Option Moved) (ts : List ℕ) (k : Kept) → ((t : ℕ) → f t ≡ None) → settled f ts k ≡ k
+pub settled-none : (f : ℕ → Option Moved) (ts : List ℕ) (k : Kept) → ((t : ℕ) → f t ≡ None) → settled f ts k ≡ k
 settled-none f [] k none = refl
 settled-none f (t ∷ ts) k none = ap (λ (o : Option Moved). settled f ts (settle_open o k)) (none t) ∙ settled-none f ts k none
 

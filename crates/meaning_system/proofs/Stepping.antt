@@ -27,7 +27,7 @@ use Rattle.meaning_areas.specs.Moving.{with_table, with_decision, with_finish, c
 
 -- what differs in nothing gives and takes nothing
 
-same-self : (n : LinkNo) → same_number n n ≡ true
+pub same-self : (n : LinkNo) → same_number n n ≡ true
 same-self n = both (n.tx == n.tx) (n.k == n.k) (test n.tx) (test n.k)
   where
     test : (x : ℕ) → (x == x) ≡ true
@@ -47,17 +47,17 @@ lacking-within (x ∷ xs) ys within =
     right true e = refl
     right false e = e
 
-nothing : (t : Tables) → lacking (links t) (links t) ≡ []
+pub nothing : (t : Tables) → lacking (links t) (links t) ≡ []
 nothing t = lacking-within (links t) (links t) (λ x e. e)
 
 -- BEGIN
-begun-moved : (t : Tables) → moved_of (new_txn t) ≡ no_moved
+pub begun-moved : (t : Tables) → moved_of (new_txn t) ≡ no_moved
 begun-moved t = λ i. record { gives = nothing t i; takes = nothing t i; fill = false }
 
 begun-work : (s : State) (t : Tables) → work_of s (new_txn t) ≡ record { stage = active; branch = false; moved = no_moved }
 begun-work s t = ap (work_by phases.Active) (begun-moved t)
 
-next-number : (o d : ℕ) → o * 2 ^ 32 + (d + 1) ≡ o * 2 ^ 32 + d + 1
+pub next-number : (o d : ℕ) → o * 2 ^ 32 + (d + 1) ≡ o * 2 ^ 32 + d + 1
 next-number o d = omega arith
 
 begun-core : (s : State) (session : ℕ) → core_of (begun s session).1 ≡ core_with (core_of s) (with_work (core_of s).works (number_of s + 1) (Some (record { stage = active; branch = false; moved = no_moved }))) (number_of s + 1)
@@ -70,10 +70,10 @@ pub state-begun : (f : Folds) (s : State) (session : ℕ) → Joint f (core_of s
 state-begun f s session joint small = subst (Joint f) (sym (begun-core s session)) (joint-begun f (core_of s) joint small)
 
 -- one transaction in another phase
-phase-core : (s : State) (tx : ℕ) (t : Txn) → core_of (with_txn s tx t) ≡ core_with (core_of s) (with_work (core_of s).works tx (Some (work_of s t))) (number_of s)
+pub phase-core : (s : State) (tx : ℕ) (t : Txn) → core_of (with_txn s tx t) ≡ core_with (core_of s) (with_work (core_of s).works tx (Some (work_of s t))) (number_of s)
 phase-core s tx t = λ i. core_with (core_of s) (works-insert s tx t i) (number_of s)
 
-gone-core : (s : State) (tx : ℕ) → core_of (without_txn s tx) ≡ core_with (core_of s) (with_work (core_of s).works tx None) (number_of s)
+pub gone-core : (s : State) (tx : ℕ) → core_of (without_txn s tx) ≡ core_with (core_of s) (with_work (core_of s).works tx None) (number_of s)
 gone-core s tx = λ i. core_with (core_of s) (works-remove s tx i) (number_of s)
 
 module _ (f : Folds) (s : State) (joint : Joint f (core_of s)) (tx : ℕ) (t : Txn) where

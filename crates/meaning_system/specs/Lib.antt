@@ -5,5 +5,6 @@ pub mod Commands
 pub mod Machine
 pub mod Writes
 pub mod CoreOf
+pub mod Following
 pub mod Full
 pub mod Recovering
