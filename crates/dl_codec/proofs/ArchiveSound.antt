@@ -5,8 +5,8 @@ use Rattle.dl_codec.specs.declared.archive.ArchiveRecord.TheVariants as records
 use Rattle.dl_codec.specs.Archive.{file_copy_of, fields_of_file_copy, file_copy, archive_record}
 use Rattle.dl_codec.specs.Files.{owner}
 use Rattle.dl_codec.proofs.FilesSound.{owner_sound}
-use Rattle.dl_codec.specs.Layout.{IsBytes, Takes, IsSound, text, pair, whole}
-use Rattle.dl_codec.proofs.Sound.{tag_takes, bare_takes, u32_sound, u64_sound, bool_sound, name_sound, text_sound, option_sound, pair_sound, along_sound, list_sound, whole-spelling}
+use Rattle.dl_codec.specs.Layout.{IsBytes, Takes, IsSound, text, pair, whole, Decodes}
+use Rattle.dl_codec.proofs.Sound.{tag_takes, bare_takes, u32_sound, u64_sound, bool_sound, name_sound, text_sound, option_sound, pair_sound, along_sound, list_sound, whole-spelling, whole_decodes}
 use Rattle.dl_codec.specs.Values.{link_number, exactly}
 use Rattle.dl_codec.proofs.ValuesSound.{link_number_sound, exactly_sound}
 
@@ -31,3 +31,7 @@ archive_record_sound = record { takes = archive_record_takes; again = archive_re
 -- a record that fits is read from its spelling
 pub whole_archive_record : (x : ArchiveRecord) → archive_record.fits x → whole archive_record (archive_record.spelling x) ≡ Some x
 whole_archive_record = whole-spelling archive_record archive_record_sound
+
+-- what is found in bytes is the one record that has them, if there is one
+pub archive_record_decodes : (bytes : List ℕ) (o : Option ArchiveRecord) → IsBytes bytes → o ≡ whole archive_record bytes → Decodes archive_record bytes o
+archive_record_decodes = whole_decodes archive_record archive_record_sound

@@ -3,8 +3,8 @@ use Rattle.std.specs.Prelude.{◌≡◌, ℕ, zero, suc, List, [], ◌∷◌, �
 use Rattle.dl_codec.specs.declared.backups.BackupRecord.{BackupRecord}
 use Rattle.dl_codec.specs.declared.backups.BackupRecord.TheVariants as records
 use Rattle.dl_codec.specs.Backups.{table_image_of, fields_of_table_image, table_image, backup, backup_record}
-use Rattle.dl_codec.specs.Layout.{IsBytes, Takes, IsSound, u64, name, pair, list, whole}
-use Rattle.dl_codec.proofs.Sound.{tag_takes, bare_takes, u32_sound, u64_sound, bool_sound, name_sound, text_sound, option_sound, pair_sound, along_sound, list_sound, whole-spelling}
+use Rattle.dl_codec.specs.Layout.{IsBytes, Takes, IsSound, u64, name, pair, list, whole, Decodes}
+use Rattle.dl_codec.proofs.Sound.{tag_takes, bare_takes, u32_sound, u64_sound, bool_sound, name_sound, text_sound, option_sound, pair_sound, along_sound, list_sound, whole-spelling, whole_decodes}
 use Rattle.dl_codec.specs.Values.{column, value}
 use Rattle.dl_codec.proofs.ValuesSound.{column_sound, value_sound}
 
@@ -33,3 +33,7 @@ backup_record_sound = record { takes = backup_record_takes; again = backup_recor
 -- a record that fits is read from its spelling
 pub whole_backup_record : (x : BackupRecord) → backup_record.fits x → whole backup_record (backup_record.spelling x) ≡ Some x
 whole_backup_record = whole-spelling backup_record backup_record_sound
+
+-- what is found in bytes is the one record that has them, if there is one
+pub backup_record_decodes : (bytes : List ℕ) (o : Option BackupRecord) → IsBytes bytes → o ≡ whole backup_record bytes → Decodes backup_record bytes o
+backup_record_decodes = whole_decodes backup_record backup_record_sound

@@ -2,9 +2,9 @@
 use Rattle.std.specs.Prelude.{◌≡◌, ℕ, zero, suc, List, [], ◌∷◌, ◌++◌, Option, Some, None, refl}
 use Rattle.dl_codec.specs.declared.links.LinksRecord.{LinksRecord}
 use Rattle.dl_codec.specs.declared.links.LinksRecord.TheVariants as records
-use Rattle.dl_codec.specs.Layout.{IsBytes, Takes, IsSound, u32, u64, bool, pair, list, whole}
+use Rattle.dl_codec.specs.Layout.{IsBytes, Takes, IsSound, u32, u64, bool, pair, list, whole, Decodes}
 use Rattle.dl_codec.specs.Links.{taken_of, fields_of_taken, taken, prepared, links_record}
-use Rattle.dl_codec.proofs.Sound.{tag_takes, bare_takes, u32_sound, u64_sound, bool_sound, name_sound, text_sound, option_sound, pair_sound, along_sound, list_sound, whole-spelling}
+use Rattle.dl_codec.proofs.Sound.{tag_takes, bare_takes, u32_sound, u64_sound, bool_sound, name_sound, text_sound, option_sound, pair_sound, along_sound, list_sound, whole-spelling, whole_decodes}
 use Rattle.dl_codec.specs.Values.{link_row}
 use Rattle.dl_codec.proofs.ValuesSound.{link_row_sound}
 
@@ -40,3 +40,7 @@ links_record_sound = record { takes = links_record_takes; again = links_record_a
 -- a record that fits is read from its spelling
 pub whole_links_record : (x : LinksRecord) → links_record.fits x → whole links_record (links_record.spelling x) ≡ Some x
 whole_links_record = whole-spelling links_record links_record_sound
+
+-- what is found in bytes is the one record that has them, if there is one
+pub links_record_decodes : (bytes : List ℕ) (o : Option LinksRecord) → IsBytes bytes → o ≡ whole links_record bytes → Decodes links_record bytes o
+links_record_decodes = whole_decodes links_record links_record_sound

@@ -4,9 +4,9 @@ use Rattle.dl_codec.specs.declared.rows.RowsRecord.{RowsRecord}
 use Rattle.dl_codec.specs.declared.rows.RowsRecord.TheVariants as records
 use Rattle.dl_codec.specs.declared.rows.TableChange.{TableChange}
 use Rattle.dl_codec.specs.declared.rows.TableChange.TheVariants as changes
-use Rattle.dl_codec.specs.Layout.{IsBytes, Takes, IsSound, u32, u64, bool, name, option, pair, list, whole}
+use Rattle.dl_codec.specs.Layout.{IsBytes, Takes, IsSound, u32, u64, bool, name, option, pair, list, whole, Decodes}
 use Rattle.dl_codec.specs.Rows.{row_change_of, fields_of_row_change, row_change, Done, dropped, new, kept, new_fields, kept_fields, done, change_by, fields_of_table_change, table_change, commit, rows_record}
-use Rattle.dl_codec.proofs.Sound.{tag_takes, bare_takes, u32_sound, u64_sound, bool_sound, name_sound, text_sound, option_sound, pair_sound, along_sound, list_sound, whole-spelling}
+use Rattle.dl_codec.proofs.Sound.{tag_takes, bare_takes, u32_sound, u64_sound, bool_sound, name_sound, text_sound, option_sound, pair_sound, along_sound, list_sound, whole-spelling, whole_decodes}
 use Rattle.dl_codec.specs.Values.{column, value}
 use Rattle.dl_codec.proofs.ValuesSound.{column_sound, value_sound}
 
@@ -78,3 +78,7 @@ rows_record_sound = record { takes = rows_record_takes; again = rows_record_agai
 -- a record that fits is read from its spelling
 pub whole_rows_record : (x : RowsRecord) → rows_record.fits x → whole rows_record (rows_record.spelling x) ≡ Some x
 whole_rows_record = whole-spelling rows_record rows_record_sound
+
+-- what is found in bytes is the one record that has them, if there is one
+pub rows_record_decodes : (bytes : List ℕ) (o : Option RowsRecord) → IsBytes bytes → o ≡ whole rows_record bytes → Decodes rows_record bytes o
+rows_record_decodes = whole_decodes rows_record rows_record_sound
