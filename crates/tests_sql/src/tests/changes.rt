@@ -1,4 +1,6 @@
 // The link numbers that statements of one transaction draw, keep and give back.
+ghost use Rattle.meaning_tables.specs.Fits.{RowsFit};
+
 use super::context;
 use dl_base::limits::MOST_LINKS;
 use dl_base::{LinkRow, List};
@@ -110,7 +112,10 @@ fn changed(
     context: &Context,
     sql: &str,
     next: &mut u32,
-) -> Option<Option<u64>> {
+) -> Option<Option<u64>>
+    requires { RowsFit tables.old }
+    ensures { RowsFit tables.new }
+{
     if *next > MOST_LINKS {
         return None;
     }
@@ -124,7 +129,10 @@ fn step(
     context: &Context,
     sql: &str,
     next: &mut u32,
-) -> Option<(Option<u64>, (u64, u64))> {
+) -> Option<(Option<u64>, (u64, u64))>
+    requires { RowsFit tables.old }
+    ensures { RowsFit tables.new }
+{
     let before = tables.copy().ok()?;
     let count = changed(alloc, tables, context, sql, next)?;
     Some((count, passed(alloc, &before, tables)?))
