@@ -45,7 +45,7 @@ abbrev pub Stands : Rows → ℕ → Row → Bool → Type 0
 Stands t place row answer = (key : Value) → slice_get row.values place ≡ Some key → answer ≡ is_some (first_number (has_key t.columns key) t.rows)
 
 module _ (t : Rows) (place : ℕ) (at : IsKeyAt t.columns place) (row : Row) (wide : length row.values ≡ length t.columns) where
-  key : Value
+  abbrev key : Value
   key = get_or row.values place values.Null
 
   there : slice_get row.values place ≡ Some key

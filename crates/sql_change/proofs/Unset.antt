@@ -195,6 +195,9 @@ at_place places news m (suc i) (v ∷ vs) within = at_place places news (m + 1) 
 shift : (i j : ℕ) → i + suc j ≡ i + 1 + j
 shift i j = omega arith
 
+at_zero : (i : ℕ) → 0 + i ≡ i
+at_zero i = omega arith
+
 here_at : (i : ℕ) → i + 0 ≡ i
 here_at i = omega arith
 
