@@ -198,6 +198,9 @@ shift i j = omega arith
 at_zero : (i : ℕ) → 0 + i ≡ i
 at_zero i = omega arith
 
+at_number : (places : List ℕ) (news : Row) (m i n : ℕ) (vs : List Value) → m + i ≡ n → i < length vs → unwrap_or (slice_get (with_cells places news m vs) i) values.Null ≡ new_cell 0 places news n (unwrap_or (slice_get vs i) values.Null)
+at_number places news m i n vs is within = at_place places news m i vs within ∙ ap (λ (x : ℕ). new_cell 0 places news x (unwrap_or (slice_get vs i) values.Null)) is
+
 here_at : (i : ℕ) → i + 0 ≡ i
 here_at i = omega arith
 
