@@ -210,7 +210,8 @@ unfolding cell
 same_cells columns places news row [] i at wide none = tt
 same_cells columns places news row (c ∷ cs) i at wide none = (
   (λ key.
-      at_place places news 0 i row.values (omega (arith, wide))
+      let first : unwrap_or (slice_get (with_cells places news 0 row.values) i) values.Null ≡ new_cell 0 places news i (unwrap_or (slice_get row.values i) values.Null) = at_number places news 0 i i row.values (at_zero i) (omega (arith, wide)) in
+      first
       ∙ not_set columns places news 0 i (unwrap_or (slice_get row.values i) values.Null) none
       (ap (λ (n : ℕ). is_key_at columns n) (sym (here_at i)) ∙ ap (λ (o : Option Column). is_key_column o) (sym (at 0)) ∙ key)),
   same_cells columns places news row cs (i + 1) (λ j. at (suc j) ∙ ap (λ (n : ℕ). slice_get columns n) (shift i j)) (omega (arith, wide)) none,
