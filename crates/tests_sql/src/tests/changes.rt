@@ -10,6 +10,13 @@ use sql_syntax::parse;
 use sql_table::Tables;
 use std::alloc::Global;
 
+// Tables whose rows fit, as each statement asks and leaves them.
+#[derive(Drop)]
+struct Fitting {
+    tables: Tables,
+    ghost fits: { RowsFit tables },
+}
+
 // A statement, the number of its rows or None where it is refused, and behind it the next link number, the links, and those that it
 // gave back and took. Links are told as two digits each: the number in the transaction, and the place of the file in the alphabet.
 const ROWS: [(&str, Option<u64>, u32, u64, u64, u64); 13] = [
@@ -108,44 +115,40 @@ fn passed(alloc: Global, before: &Tables, after: &Tables) -> Option<(u64, u64)> 
 // The number of rows, or None where the statement is refused; the outer None where it is none.
 fn changed(
     alloc: Global,
-    tables: &mut Tables,
+    fitting: &mut Fitting,
     context: &Context,
     sql: &str,
     next: &mut u32,
-) -> Option<Option<u64>>
-    requires { RowsFit tables.old }
-    ensures { RowsFit tables.new }
-{
+) -> Option<Option<u64>> {
     if *next > MOST_LINKS {
         return None;
     }
     let stmt = parse(alloc, sql.as_bytes()).ok()?;
-    Some(change(alloc, tables, &stmt, context, next).ok())
+    Some(change(alloc, &mut fitting.tables, &stmt, context, next).ok())
 }
 
 fn step(
     alloc: Global,
-    tables: &mut Tables,
+    fitting: &mut Fitting,
     context: &Context,
     sql: &str,
     next: &mut u32,
-) -> Option<(Option<u64>, (u64, u64))>
-    requires { RowsFit tables.old }
-    ensures { RowsFit tables.new }
-{
-    let before = tables.copy().ok()?;
-    let count = changed(alloc, tables, context, sql, next)?;
-    Some((count, passed(alloc, &before, tables)?))
+) -> Option<(Option<u64>, (u64, u64))> {
+    let before = fitting.tables.copy().ok()?;
+    let count = changed(alloc, fitting, context, sql, next)?;
+    Some((count, passed(alloc, &before, &fitting.tables)?))
 }
 
 fn run(rt: &impl std::process::Abort, alloc: Global, context: &Context) {
-    let mut tables = Tables::empty(alloc);
+    let mut fitting = Fitting {
+        tables: Tables::empty(alloc),
+    };
     let mut next = 1u32;
     for (sql, count, number, all, gives, takes) in ROWS {
-        let told = step(alloc, &mut tables, context, sql, &mut next);
+        let told = step(alloc, &mut fitting, context, sql, &mut next);
         assert!(rt; told == Some((count, (gives, takes))));
         assert!(rt; next == number);
-        assert!(rt; linked(alloc, &tables) == Some(all));
+        assert!(rt; linked(alloc, &fitting.tables) == Some(all));
     }
 }
 
