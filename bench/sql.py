@@ -7,7 +7,7 @@ of three runs, or of one where it takes more than five seconds. An answer that i
 that Python brings along; its time is that of handing it the same statements one by one and taking their rows.
 
 Printed are: INSERTs of a row each into a table with a key, 10,000 and 20,000 of them; UPDATE, DELETE and SELECT by key over 1,000 and
-over 100,000 rows, a statement; joins by a key; a join of three tables of 200 rows; a COUNT over 10,000,000 combined rows, with its
+over 100,000 rows, for one statement; joins by a key; a join of three tables of 200 rows; a COUNT over 10,000,000 combined rows, with its
 peak of memory; SELECTs that look at all rows, ORDER BY and GROUP BY; and how many bytes a row takes.
 
 With a word, only the kinds whose name has it are measured.
@@ -55,15 +55,16 @@ def by_key(statement, answer, rows, count):
 
 
 def updates(rows):
-    return by_key("UPDATE t SET v = v + 1 WHERE id = %d", "ok 1", rows, 500)
+    return by_key("UPDATE t SET v = v + 1 WHERE id = %d", "ok 1", rows, 20_000)
 
 
 def deletes(rows):
-    return by_key("DELETE FROM t WHERE id = %d", "ok 1", rows, 500)
+    """Of a fifth of the rows at most, so that a table of few keeps most of them."""
+    return by_key("DELETE FROM t WHERE id = %d", "ok 1", rows, rows // 5)
 
 
 def selects(rows):
-    return by_key("SELECT v, s FROM t WHERE id = %d", "rows 1", rows, 500)
+    return by_key("SELECT v, s FROM t WHERE id = %d", "rows 1", rows, 200)
 
 
 def join(rows, others):
@@ -154,12 +155,15 @@ def twice(name, make, size):
 
 
 def grown(name, make, few, many):
-    """The same statements over few and over many rows."""
-    took, sqlite, _ = measured(*make(few))
-    line("500 %s over %d rows" % (name, few), took, sqlite)
-    more, sqlite, _ = measured(*make(many))
-    line("500 %s over %d rows" % (name, many), more, sqlite)
-    print("  %.2f times the time for %d times as many rows" % (more / took, many // few), flush=True)
+    """A statement over few and over many rows."""
+    times = []
+    for rows in (few, many):
+        before, statements = make(rows)
+        took, sqlite, _ = measured(before, statements)
+        line("%d %s over %d rows" % (len(statements), name, rows), took, sqlite)
+        times.append(took / len(statements))
+        print("  %.1f microseconds a statement" % (times[-1] * 1e6), flush=True)
+    print("  %.2f times the time for %d times as many rows" % (times[1] / times[0], many // few), flush=True)
 
 
 def one(name, made):
