@@ -77,8 +77,12 @@ abbrev pub IsCommit : Commit → List Commit → Type 0
 IsCommit c [] = ⊥
 IsCommit c (d ∷ ds) = (c ≡ d) ⊎ IsCommit c ds
 
--- How Rows and Links must fit each other before settling.
-pub record Compares (f : Folds) : Type 0 where
+-- what committed branches in doubt give with RECOVERY YES has a copy, or a file of which one can be made
+abbrev pub AreReady : Folds → Type 0
+AreReady f = (tx : ℕ) (m : Moved) → is_some (commit_of tx f.rows.commits) ≡ true → open_in f.links tx ≡ Some m → IsReady m (kept_of f)
+
+-- How Rows and Links must fit each other before settling, and what else is asked of the branches in doubt.
+pub record Compared (f : Folds) (Ready : Type 0) : Type 0 where
   -- no two commits are of one transaction
   pub distinct : AreDistinct (txs_of f.rows.commits)
   -- a commit with a branch has a Prepared of its number, not aborted, with the links that it took away and added; one without
@@ -89,14 +93,16 @@ pub record Compares (f : Folds) : Type 0 where
   pub ended : (tx : ℕ) → has_number tx f.rows.ended ≡ true → (m : Moved) × (maps.get f.links.table tx ≡ Some (branch m Done))
   -- branches in doubt are on different paths and of different links
   pub apart : AreApart (open_in f.links)
-  -- what a committed one in doubt gives with RECOVERY YES has a copy, or a file of which one can be made
-  pub ready : (tx : ℕ) (m : Moved) → is_some (commit_of tx f.rows.commits) ≡ true → open_in f.links tx ≡ Some m → IsReady m (kept_of f)
+  pub ready : Ready
   -- what is held after settling is what the last commit links
   pub held : (p : List ℕ) → maps.get (settled_of f).held p ≡ on (links (tables_after [] f.rows.commits)) p
   -- no transaction number is of a later opening than the last of Rows, also inside a link number
   pub numbers : (tx : ℕ) → f.rows.opening < tx / 2 ^ 32 → (commit_of tx f.rows.commits ≡ None) × (maps.get f.links.table tx ≡ None)
   pub drawn_commits : (c : Commit) → IsCommit c f.rows.commits → AreDrawn f.rows.opening (links c.tables)
   pub drawn_branches : (tx : ℕ) (b : Branch) → maps.get f.links.table tx ≡ Some b → AreDrawn f.rows.opening b.moved.gives × AreDrawn f.rows.opening b.moved.takes
+
+abbrev pub Compares : Folds → Type 0
+Compares f = Compared f (AreReady f)
 
 -- the tables after commit n, from 0
 abbrev pub past : Tables → List Commit → ℕ → Option Tables
