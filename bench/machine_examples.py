@@ -18,7 +18,7 @@ COPIED = {
     'meaning_system': ['Sql', 'State', 'Claims', 'Commands', 'Machine', 'Writes'],
 }
 MAPS = '''-- Sorted lists of entries, in the place of the library's finite maps: these compute.
-use Rattle.std.specs.Prelude.{ℕ, Bool, true, false, not, cond, List, [], ◌∷◌, length, map, Option, Some, None}
+use Rattle.std.specs.Prelude.{ℕ, Bool, not, List, [], ◌∷◌, length, map, Option}
 use Rattle.std.specs.List.{filter}
 use Rattle.std.specs.Ordering.{eq_by_cmp}
 use Rattle.std.specs.declared.cmp.Ordering.{Ordering}
@@ -62,22 +62,35 @@ module _ {K X : Type 0} {R : K → K → Ordering} where
   abbrev pub len : FinMap R X → ℕ
   len m = length m.list
 '''
-FILES = '''-- Files and their changes, over maps that compute.
-use Rattle.std.specs.Prelude.{ℕ, true, List, [], ◌∷◌, Option, Some, None, option_and_then}
+FILES = '''-- Files, their changes, and the commands on them, over maps that compute.
+use Rattle.std.specs.Prelude.{ℕ, true, if◌then◌else◌, List, [], ◌∷◌, map, Option, Some, None, nat_lt, bytes_eq, option_and_then}
 use Rattle.std.specs.Cmp.Lexicographic.{slice_cmp}
+use Rattle.std.specs.Option.{unwrap_or}
 use Rattle.std.specs.Ordering.{nat_cmp}
+use Rattle.dl_base.specs.Limits.{most_files}
+use Rattle.dl_base.specs.declared.answer.Answer.{Answer}
+use Rattle.dl_base.specs.declared.answer.Answer.TheVariants as answers
+use Rattle.dl_base.specs.declared.answer.FileRefusal.{FileRefusal}
+use Rattle.dl_base.specs.declared.answer.FileRefusal.TheVariants as refusals
+use Rattle.dl_base.specs.declared.answer.Limit.TheVariants as limits
+use Rattle.dl_base.specs.declared.answer.Why.{Why}
 use Rattle.dl_base.specs.declared.file.File.{File}
 use Rattle.dl_base.specs.declared.file.FileChange.{FileChange}
 use Rattle.dl_base.specs.declared.file.FileChange.TheVariants as changes
+use Rattle.dl_base.specs.declared.file.FileCmd.{FileCmd}
+use Rattle.dl_base.specs.declared.file.FileRow.{FileRow}
+use Rattle.dl_base.specs.declared.file.FileWhat.{FileWhat}
+use Rattle.dl_base.specs.declared.file.FileWhat.TheVariants as whats
 use Rattle.dl_base.specs.declared.file.Owner.{Owner}
-use Rattle.meaning_examples.specs.Maps as map
+use Rattle.dl_base.specs.declared.value.LinkNo.{LinkNo}
+use Rattle.meaning_examples.specs.Maps as maps
 
 -- in the place of the digest
 abbrev pub sha256 : List ℕ → List ℕ
 sha256 bytes = bytes
 
 abbrev pub Files : Type 0
-Files = map.FinMap (slice_cmp nat_cmp) File
+Files = maps.FinMap (slice_cmp nat_cmp) File
 
 '''
 
@@ -101,7 +114,6 @@ def moved(text):
             ('Rattle.std.specs.FinMap as', 'Rattle.meaning_examples.specs.Maps as'),
             ('Rattle.meaning_files.specs.Files.', 'Rattle.meaning_examples.specs.UserFiles.'),
             ('Rattle.meaning_files.specs.Commands.', 'Rattle.meaning_examples.specs.UserFiles.'),
-            ('Rattle.meaning_areas.specs.FilesArea.', 'Rattle.meaning_examples.specs.UserFiles.'),
             ('Rattle.sha2.specs.Sha256.', 'Rattle.meaning_examples.specs.UserFiles.')]:
         text = text.replace(old, new)
     return text
@@ -111,8 +123,7 @@ def main():
     made = {'Maps': MAPS}
     made['UserFiles'] = (
         FILES + between(read('meaning_files', 'Files'), '-- the files with a new owner and', None) + '\n'
-        + between(read('meaning_files', 'Commands'), '-- a user\'s new file', '-- why a command is refused')
-        + between(read('meaning_areas', 'FilesArea'), '-- a removal and new owners', 'abbrev pub with_record')).rstrip() + '\n'
+        + between(read('meaning_files', 'Commands'), '-- WHY A COMMAND IS REFUSED', '-- A FILE COMMAND that no link')).rstrip() + '\n'
     for crate, modules in COPIED.items():
         for module in modules:
             made[module] = moved(read(crate, module))

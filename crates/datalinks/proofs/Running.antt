@@ -217,12 +217,14 @@ module _ (turns : List Turn) (bodies : List (List ℕ)) (first : Catalog) (o : O
             cc (at, there, here)
 
         full_now : (k : ℕ) (d : FileCmd) → k ≡ r.count → d ≡ c → refusal (files_after first.files (first_steps k turns)) d ≡ None → IsWriting d.what
-            → first.limit < length_with (bodies ++ written first.files (first_steps k turns)) (record_of d)
-            → full ≡ fulls.Area areas.Files (min (length_with (bodies ++ written first.files (first_steps k turns)) (record_of d)) (2 ^ 64 - 1)) → IsFullStep now c full
+            → first.limit < length_with (bodies ++ written first.files (first_steps k turns)) (record_of (files_after first.files (first_steps k turns)) d)
+            → full ≡ fulls.Area areas.Files (min (length_with (bodies ++ written first.files (first_steps k turns)) (record_of (files_after first.files (first_steps k turns)) d)) (2 ^ 64 - 1)) → IsFullStep now c full
         full_now k d at same accepted writing passes full_is =
-            let long : length_with (bodies ++ written first.files (first_steps k turns)) (record_of d) ≡ now.length + 9 + length (record_of c) =
-            ap (λ (j : ℕ). length_with (bodies ++ written first.files (first_steps j turns)) (record_of d)) at
-            ∙ ap (λ (e : FileCmd). length_with so_far (record_of e)) same ∙ omega (arith, r.holds.keeps.length) in
+            let here : length_with so_far (record_of now.files c) ≡ now.length + 9 + length (record_of now.files c) = omega (arith, r.holds.keeps.length) in
+            let long : length_with (bodies ++ written first.files (first_steps k turns)) (record_of (files_after first.files (first_steps k turns)) d) ≡ now.length + 9 + length (record_of now.files c) =
+            ap (λ (j : ℕ). length_with (bodies ++ written first.files (first_steps j turns)) (record_of (files_after first.files (first_steps j turns)) d)) at
+            ∙ ap (λ (e : FileCmd). length_with so_far (record_of (files_after first.files (first_steps r.count turns)) e)) same
+            ∙ ap (λ (f : Files). length_with so_far (record_of f c)) (sym r.files) ∙ here in
             record {
               accepted = ap (λ (f : Files). refusal f c) r.files ∙ ap (λ (e : FileCmd). refusal (files_after first.files (first_steps r.count turns)) e) (sym same)
                   ∙ ap (λ (j : ℕ). refusal (files_after first.files (first_steps j turns)) d) (sym at) ∙ accepted;

@@ -78,7 +78,9 @@ module _ (turns : List Turn) (bodies : List (List ℕ)) (first : Catalog) (o : O
   full_next full f =
       let next_step : steps turns ≡ first_steps r.count turns ++ f.cmd ∷ steps next =
       r.steps_are ∙ ap (λ (l : List FileCmd). first_steps r.count turns ++ l) (steps_of (Some f.cmd) f.is) in
-      let long : now.length + 9 + length (record_of f.cmd) ≡ length_with (so_far turns bodies first o now (turn ∷ next) number m r) (record_of f.cmd) = omega (arith, r.holds.keeps.length) in
+      let here : now.length + 9 + length (record_of now.files f.cmd) ≡ length_with (so_far turns bodies first o now (turn ∷ next) number m r) (record_of now.files f.cmd) = omega (arith, r.holds.keeps.length) in
+      let long : now.length + 9 + length (record_of now.files f.cmd) ≡ length_with (so_far turns bodies first o now (turn ∷ next) number m r) (record_of (files_after first.files (first_steps r.count turns)) f.cmd) =
+      here ∙ ap (λ (files : Files). length_with (so_far turns bodies first o now (turn ∷ next) number m r) (record_of files f.cmd)) r.files in
       record {
         count = r.count;
         cmd = f.cmd;

@@ -57,8 +57,8 @@ pub record IsAfterLine (number : ℕ) (turn : Turn) (bodies : List (List ℕ)) (
 pub record IsFullStep (c : Catalog) (cmd : FileCmd) (full : Full) : Type 0 where
   pub accepted : refusal c.files cmd ≡ None
   pub writing : IsWriting cmd.what
-  pub passes : IsFullWith c (record_of cmd)
-  pub full_is : full ≡ full_with c (record_of cmd)
+  pub passes : IsFullWith c (record_of c.files cmd)
+  pub full_is : full ≡ full_with c (record_of c.files cmd)
 
 -- the same of a line
 pub record IsFullLine (c : Catalog) (turn : Turn) (full : Full) : Type 0 where

@@ -109,8 +109,8 @@ pub record IsFullAt (turns : List Turn) (bodies : List (List ℕ)) (files : File
   pub next : slice_get (steps turns) count ≡ Some cmd
   pub accepted : refusal (files_after files (first_steps count turns)) cmd ≡ None
   pub writing : IsWriting cmd.what
-  pub passes : limit < length_with (bodies ++ written files (first_steps count turns)) (record_of cmd)
-  pub full_is : full ≡ fulls.Area areas.Files (min (length_with (bodies ++ written files (first_steps count turns)) (record_of cmd)) (2 ^ 64 - 1))
+  pub passes : limit < length_with (bodies ++ written files (first_steps count turns)) (record_of (files_after files (first_steps count turns)) cmd)
+  pub full_is : full ≡ fulls.Area areas.Files (min (length_with (bodies ++ written files (first_steps count turns)) (record_of (files_after files (first_steps count turns)) cmd)) (2 ^ 64 - 1))
 
 -- a whole run: each line is told, the area has what all steps wrote, and no step's record would have passed the limit
 pub record IsWholeRun (turns : List Turn) (limit : ℕ) (bodies : List (List ℕ)) (files : Files) (o n : Outside) : Type 0 where

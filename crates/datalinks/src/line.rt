@@ -1,16 +1,15 @@
 // One line: its step, and what is told of it.
-ghost use Rattle.std.specs.Prelude.{◌≡◌, ◌≢◌, ◌≤◌, ℕ, true, List, [], ◌++◌, Some, None, Err, IfOk, OnOk};
+ghost use Rattle.std.specs.Prelude.{◌≡◌, ◌≢◌, ◌≤◌, ℕ, List, [], ◌++◌, Some, None, Err, IfOk, OnOk};
 ghost use Rattle.std.specs.FinMap as map;
 ghost use Rattle.dl_base.specs.Outside.{Moments, Says, Rose, extended};
 ghost use Rattle.dl_base.specs.declared.fault.Full.{Full};
 ghost use Rattle.fs_files.specs.Store.{Holds, IsReady};
 ghost use Rattle.meaning_areas.specs.FilesArea.{writes};
-ghost use Rattle.meaning_files.specs.Commands.{refusal, read_answer, answer_of, changed, file_command};
-ghost use Rattle.meaning_machine.specs.Turns.{IsTurn, is_built_command, Sessions as SessionsMeant};
+ghost use Rattle.meaning_files.specs.Commands.{refusal, bytes_of, command_answer, changed, file_command};
+ghost use Rattle.meaning_machine.specs.Turns.{IsTurn, Sessions as SessionsMeant};
 ghost use Rattle.meaning_script.specs.Printed.{line_text};
 ghost use Rattle.meaning_script.specs.Steps.{turn_step, turn_answer, files_behind};
 ghost use Rattle.meaning_script.specs.declared.turn.Turn as turned;
-ghost use Rattle.run_turn.specs.Asking.{AsksBuilt};
 ghost use Rattle.datalinks.specs.Lines.{OthersStand, line_writes, IsInStep, IsInLine, IsAfterLine, IsFullStep, IsFullLine};
 
 use dl_base::{
@@ -60,8 +59,7 @@ fn take_turn<B: Bench>(
     number: u64,
     turn: Turn,
 ) -> Result<(), StepFault>
-    requires ready { IsReady store.old (B.outside bench.old) }
-    requires built { AsksBuilt turn }
+    requires { IsReady store.old (B.outside bench.old) }
     ensures ready { OnOk result (IsReady store.new (B.outside bench.new)) }
     ensures images { (bodies : List (List ℕ)) → Holds store.old bodies (B.outside bench.old) → Moments (IsInLine number turn bodies store.old.files (B.outside bench.old)) (B.outside bench.old) (B.outside bench.new) }
     ensures done { OnOk result ((bodies : List (List ℕ)) → Holds store.old bodies (B.outside bench.old) → IsAfterLine number turn bodies store.old store.new (B.outside bench.old) (B.outside bench.new)) }
@@ -113,8 +111,7 @@ fn answer_turn<B: Bench>(
     store: &mut Files,
     turn: Turn,
 ) -> Result<Option<Answer>, StepFault>
-    requires ready { IsReady store.old (B.outside bench.old) }
-    requires built { AsksBuilt turn }
+    requires { IsReady store.old (B.outside bench.old) }
     ensures answer { IfOk result (λ answer. answer ≡ turn_answer store.old.files turn) }
     ensures files { OnOk result (store.new.files ≡ files_behind store.old.files (turn_step turn)) }
     ensures kept { OnOk result ((bodies : List (List ℕ)) → Holds store.old bodies (B.outside bench.old) → Holds store.new (bodies ++ line_writes store.old.files (turn_step turn)) (B.outside bench.new)) }
@@ -139,8 +136,7 @@ fn answer_turn<B: Bench>(
 // Does a command, and gives its answer.
 #[tactic(auto, using(crate::proofs::Others::others_none, crate::proofs::Others::others_then, crate::proofs::Others::others_touch, crate::proofs::Others::others_say))]
 fn step<B: Bench>(bench: &mut B, store: &mut Files, cmd: FileCmd) -> Result<Answer, StepFault>
-    requires ready { IsReady store.old (B.outside bench.old) }
-    requires built { is_built_command cmd.what ≡ true }
+    requires { IsReady store.old (B.outside bench.old) }
     ensures answer { IfOk result (λ answer. answer ≡ (file_command store.old.files cmd).0) }
     ensures files { OnOk result (store.new.files ≡ (file_command store.old.files cmd).1) }
     ensures kept { OnOk result ((bodies : List (List ℕ)) → Holds store.old bodies (B.outside bench.old) → Holds store.new (bodies ++ writes store.old.files cmd) (B.outside bench.new)) }
@@ -155,7 +151,7 @@ fn step<B: Bench>(bench: &mut B, store: &mut Files, cmd: FileCmd) -> Result<Answ
     ensures faults { (B.outside bench.old).faults ≤ (B.outside bench.new).faults }
     ensures device { result ≡ Err StepFault.Device → Rose (B.outside bench.old) (B.outside bench.new) }
 {
-    match store.test(&cmd)? {
+    match store.test(&cmd, None)? {
         Some(why) => Ok(Answer::Refused(Refusal::File(why))),
         None => accepted(bench, store, cmd),
     }
@@ -165,9 +161,8 @@ fn step<B: Bench>(bench: &mut B, store: &mut Files, cmd: FileCmd) -> Result<Answ
 #[tactic(auto, using(crate::proofs::Others::others_none, crate::proofs::Others::others_then, crate::proofs::Others::others_touch, crate::proofs::Others::others_say))]
 fn accepted<B: Bench>(bench: &mut B, store: &mut Files, cmd: FileCmd) -> Result<Answer, StepFault>
     requires ready { IsReady store.old (B.outside bench.old) }
-    requires built { is_built_command cmd.what ≡ true }
     requires accepted { refusal store.old.files cmd ≡ None }
-    ensures answer { IfOk result (λ answer. answer ≡ answer_of store.old.files cmd.what) }
+    ensures answer { IfOk result (λ answer. answer ≡ command_answer store.old.files cmd.what) }
     ensures files { OnOk result (store.new.files ≡ changed store.old.files cmd) }
     ensures kept { OnOk result ((bodies : List (List ℕ)) → Holds store.old bodies (B.outside bench.old) → Holds store.new (bodies ++ writes store.old.files cmd) (B.outside bench.new)) }
     ensures ready { OnOk result (IsReady store.new (B.outside bench.new)) }
@@ -184,6 +179,7 @@ fn accepted<B: Bench>(bench: &mut B, store: &mut Files, cmd: FileCmd) -> Result<
     let FileCmd { user, what } = cmd;
     match what {
         FileWhat::Read(path, _) => Ok(content(store, &path)?),
+        FileWhat::List => Ok(Answer::Files(store.list()?)),
         what => {
             store.apply(bench, FileCmd { user, what })?;
             Ok(Answer::Done)
@@ -193,7 +189,7 @@ fn accepted<B: Bench>(bench: &mut B, store: &mut Files, cmd: FileCmd) -> Result<
 
 // The bytes of a file.
 fn content(store: &Files, path: &Path) -> Result<Answer, Memory>
-    ensures { IfOk result (λ answer. answer ≡ read_answer (map.get store.now.files path.now)) }
+    ensures { IfOk result (λ answer. answer ≡ bytes_of (map.get store.now.files path.now)) }
 {
     match store.look(path) {
         Some(file) => Ok(Answer::Bytes(file.bytes.copy()?)),

@@ -1,13 +1,13 @@
 // The system: each method is one call of it, but the lock's, which opens the folder first. What a call does is trusted: no
-// clause says it. That it failed is counted.
-ghost use Rattle.std.specs.Prelude.{◌≡◌, ◌≤◌, is_err, is_some, IfOk, Ok};
+// clause says it. That it failed, or was interrupted, is counted.
+ghost use Rattle.std.specs.Prelude.{◌≡◌, ◌≤◌, true, is_some, IfOk, Ok};
 ghost use Rattle.dl_host.specs.Blind.{blind, held_where};
-ghost use Rattle.dl_host.specs.Hosts.{count_after, falls_short, with_faults};
+ghost use Rattle.dl_host.specs.Hosts.{count_after, is_fault, is_interruption, has_failed, was_interrupted, falls_short, with_faults};
 ghost use Rattle.dl_host.specs.Laws.{lawful_counted, blind_lawful};
 
 use dl_base::Area;
 use dl_host::{Host, Reader, Stop};
-use std::fs::{File, Files, OpenOptions};
+use std::fs::{File, Files, OpenOptions, TryLockError};
 use std::io;
 use std::io::{ErrorKind, Read, Write};
 use std::os::fd::AsRawFd;
@@ -20,46 +20,84 @@ pub struct AreaFile {
     file: File,
 }
 
-/// The current folder, and standard output. It tells no content, and counts its faults.
+/// The current folder, and standard output. It tells no content, and counts its faults and its interruptions.
 #[derive(Drop)]
 pub struct Machine<R: Files<File = File> + Print + Drop> {
     rt: R,
     // open from its lock on, for its syncs
     folder: Option<File>,
-    faults: u64,
+    counts: Counts,
 }
 
-/// Why a call stopped.
-fn stop(why: io::Error) -> Stop {
-    match why.kind() {
-        ErrorKind::Interrupted => Stop::Interrupted,
-        _ => Stop::Failed,
+/// How many calls failed, and how many were interrupted.
+#[derive(Drop)]
+struct Counts {
+    faults: u64,
+    interruptions: u64,
+}
+
+impl Counts {
+    fn none() -> Counts
+        ensures faults { result.faults ≡ 0 }
+        ensures interruptions { result.interruptions ≡ 0 }
+    {
+        Counts {
+            faults: 0,
+            interruptions: 0,
+        }
+    }
+
+    fn count_fault(&mut self)
+        ensures faults { self.new.faults ≡ count_after true self.old.faults }
+        ensures interruptions { self.new.interruptions ≡ self.old.interruptions }
+        ensures later { self.old.faults ≤ self.new.faults }
+    {
+        self.faults = self.faults.saturating_add(1);
+    }
+
+    /// Why a call stopped, which is counted.
+    fn stop(&mut self, why: io::Error) -> Stop
+        ensures faults { self.new.faults ≡ count_after (is_fault result) self.old.faults }
+        ensures interruptions { self.new.interruptions ≡ count_after (is_interruption result) self.old.interruptions }
+        ensures later { self.old.faults ≤ self.new.faults }
+    {
+        match why.kind() {
+            ErrorKind::Interrupted => {
+                self.interruptions = self.interruptions.saturating_add(1);
+                Stop::Interrupted
+            }
+            _ => {
+                self.count_fault();
+                Stop::Failed
+            }
+        }
     }
 }
 
 impl<R: Files<File = File> + Print + Drop> Machine<R> {
     /// The current folder. Nothing is asked of it before its lock.
-    pub fn new(rt: R) -> Machine<R> {
+    pub fn new(rt: R) -> Machine<R>
+        ensures faults { result.counts.faults ≡ 0 }
+        ensures interruptions { result.counts.interruptions ≡ 0 }
+    {
         Machine {
             rt,
             folder: None,
-            faults: 0,
+            counts: Counts::none(),
         }
     }
 
-    /// What a call answered; a fault is counted.
+    /// What a call answered.
     fn counted<T: Drop>(&mut self, answer: io::Result<T>) -> Result<T, Stop>
         ensures ok { IfOk result (λ value. answer ≡ Ok value) }
         ensures folder { self.new.folder ≡ self.old.folder }
-        ensures faults { self.new.faults ≡ count_after (is_err result) self.old.faults }
-        ensures later { self.old.faults ≤ self.new.faults }
+        ensures faults { self.new.counts.faults ≡ count_after (has_failed result) self.old.counts.faults }
+        ensures interruptions { self.new.counts.interruptions ≡ count_after (was_interrupted result) self.old.counts.interruptions }
+        ensures later { self.old.counts.faults ≤ self.new.counts.faults }
     {
         match answer {
             Ok(value) => Ok(value),
-            Err(why) => {
-                self.faults = self.faults.saturating_add(1);
-                Err(stop(why))
-            }
+            Err(why) => Err(self.counts.stop(why)),
         }
     }
 
@@ -67,20 +105,18 @@ impl<R: Files<File = File> + Print + Drop> Machine<R> {
     fn counted_part(&mut self, answer: io::Result<usize>, asked: usize) -> Result<usize, Stop>
         ensures ok { IfOk result (λ count. answer ≡ Ok count) }
         ensures folder { self.new.folder ≡ self.old.folder }
-        ensures faults { self.new.faults ≡ count_after (falls_short asked result) self.old.faults }
-        ensures later { self.old.faults ≤ self.new.faults }
+        ensures faults { self.new.counts.faults ≡ count_after (falls_short asked result) self.old.counts.faults }
+        ensures interruptions { self.new.counts.interruptions ≡ count_after (was_interrupted result) self.old.counts.interruptions }
+        ensures later { self.old.counts.faults ≤ self.new.counts.faults }
     {
         match answer {
             Ok(count) => {
                 if count == 0 && asked > 0 {
-                    self.faults = self.faults.saturating_add(1);
+                    self.counts.count_fault();
                 }
                 Ok(count)
             }
-            Err(why) => {
-                self.faults = self.faults.saturating_add(1);
-                Err(stop(why))
-            }
+            Err(why) => Err(self.counts.stop(why)),
         }
     }
 }
@@ -88,7 +124,9 @@ impl<R: Files<File = File> + Print + Drop> Machine<R> {
 impl<R: Files<File = File> + Print + Drop> Host for Machine<R> {
     type File = AreaFile;
 
-    ghost outside = { λ m. with_faults m.faults blind };
+    ghost outside = { λ m. with_faults m.counts.faults blind };
+
+    ghost interruptions = { λ m. m.counts.interruptions };
 
     ghost hold = { λ m. held_where (is_some m.folder) };
 
@@ -103,8 +141,9 @@ impl<R: Files<File = File> + Print + Drop> Host for Machine<R> {
                 self.folder = Some(folder);
                 Ok(())
             }
-            Err(_) => {
-                self.faults = self.faults.saturating_add(1);
+            Err(TryLockError::Error(why)) => Err(self.counts.stop(why)),
+            Err(TryLockError::WouldBlock) => {
+                self.counts.count_fault();
                 Err(Stop::Failed)
             }
         }
@@ -153,19 +192,25 @@ impl<R: Files<File = File> + Print + Drop> Host for Machine<R> {
         self.counted_part(written, bytes.len())
     }
 
-    ghost lawful = { λ m. lawful_counted m.faults blind blind_lawful };
+    ghost lawful = { λ m. lawful_counted m.counts.faults blind blind_lawful };
 }
 
-/// Standard input. It tells no content, and counts its faults.
+/// Standard input. It tells no content, and counts its faults and its interruptions.
 #[derive(Drop)]
 pub struct Script<R: Input + Drop> {
     rt: R,
-    faults: u64,
+    counts: Counts,
 }
 
 impl<R: Input + Drop> Script<R> {
-    pub fn new(rt: R) -> Script<R> {
-        Script { rt, faults: 0 }
+    pub fn new(rt: R) -> Script<R>
+        ensures faults { result.counts.faults ≡ 0 }
+        ensures interruptions { result.counts.interruptions ≡ 0 }
+    {
+        Script {
+            rt,
+            counts: Counts::none(),
+        }
     }
 }
 
@@ -174,15 +219,14 @@ impl<R: Input + Drop> Reader for Script<R> {
 
     ghost rest = { λ _. None };
 
-    ghost faults = { λ s. s.faults };
+    ghost faults = { λ s. s.counts.faults };
+
+    ghost interruptions = { λ s. s.counts.interruptions };
 
     fn read(&mut self, into: &mut [u8]) -> Result<usize, Stop> {
         match self.rt.reader().read(into) {
             Ok(count) => Ok(count),
-            Err(why) => {
-                self.faults = self.faults.saturating_add(1);
-                Err(stop(why))
-            }
+            Err(why) => Err(self.counts.stop(why)),
         }
     }
 }

@@ -1,5 +1,5 @@
 pub mod Loops
+pub mod Undone
 pub mod Counted
 pub mod Idle
-pub mod Turns
 pub mod Untold

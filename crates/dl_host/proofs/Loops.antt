@@ -48,11 +48,6 @@ replaced_then at xs ys s le =
     ∙ append_assoc (take at s) xs (ys ++ drop (at + length (xs ++ ys)) s)
     ∙ ap (λ (l : List ℕ). take at s ++ l) (sym (append_assoc xs ys (drop (at + length (xs ++ ys)) s)))
 
--- nothing is written yet
-pub written_none : (at : ℕ) (bytes : List ℕ) (o : Option (List ℕ)) → o ≡ overwritten at (take 0 bytes) o
-written_none at bytes None = refl
-written_none at bytes (Some s) = let nought : at + 0 ≡ at = omega arith in ap (λ (l : List ℕ). Some l) (sym (ap (λ (k : ℕ). take at s ++ drop k s) nought ∙ take-append-drop at s))
-
 pub written_then : (at done n : ℕ) (bytes : List ℕ) (o m l : Option (List ℕ)) → done ≤ length bytes
     → ((s : List ℕ) → o ≡ Some s → at ≤ length s)
     → m ≡ overwritten at (take done bytes) o → l ≡ overwritten (at + done) (take n (drop done bytes)) m

@@ -1,8 +1,10 @@
 -- What a run holds of its folder, and how its files are named.
-use Rattle.std.specs.Prelude.{◌≡◌, ℕ, ◌+◌, ◌-◌, ◌^◌, ◌==◌, ◌&&◌, min, nat_lt, Bool, true, if◌then◌else◌, List, codes, Result, Ok, Err}
+use Rattle.std.specs.Prelude.{◌≡◌, ℕ, ◌+◌, ◌-◌, ◌^◌, ◌≤◌, ◌==◌, ◌&&◌, min, nat_lt, Bool, true, false, if◌then◌else◌, List, codes, Result, Ok, Err}
 use Rattle.dl_base.specs.declared.area.Area.{Area}
 use Rattle.dl_base.specs.declared.area.Area.TheVariants.{Rows, Links, Files, Archive, Backups}
 use Rattle.dl_base.specs.Outside.{Outside}
+use Rattle.dl_host.specs.declared.host.Stop.{Stop}
+use Rattle.dl_host.specs.declared.host.Stop.TheVariants.{Interrupted, Failed}
 
 pub record Hold : Type 0 where
   -- no other run has the folder
@@ -27,11 +29,33 @@ name_of Backups = codes "datalinks.backups"
 abbrev pub with_faults : ℕ → Outside → Outside
 with_faults n o = record o { faults = n }
 
--- a count of faults behind a call that failed, or not; it stands at its last value
+-- a count behind a call that is counted, or not; it stands at its last value
 abbrev pub count_after : Bool → ℕ → ℕ
-count_after failed n = if failed then min (n + 1) (2 ^ 64 - 1) else n
+count_after counts n = if counts then min (n + 1) (2 ^ 64 - 1) else n
+
+-- why a call stopped: it failed, or a signal came first
+abbrev pub is_fault : Stop → Bool
+is_fault Interrupted = false
+is_fault Failed = true
+
+abbrev pub is_interruption : Stop → Bool
+is_interruption Interrupted = true
+is_interruption Failed = false
+
+-- whether a call failed; one that was interrupted did not
+abbrev pub has_failed : {A : Type 0} → Result A Stop → Bool
+has_failed (Ok a) = false
+has_failed (Err why) = is_fault why
+
+abbrev pub was_interrupted : {A : Type 0} → Result A Stop → Bool
+was_interrupted (Ok a) = false
+was_interrupted (Err why) = is_interruption why
 
 -- whether a call for so many bytes failed, or did none of them
-abbrev pub falls_short : {E : Type 0} → ℕ → Result ℕ E → Bool
+abbrev pub falls_short : ℕ → Result ℕ Stop → Bool
 falls_short asked (Ok n) = (n == 0) && nat_lt 0 asked
-falls_short asked (Err e) = true
+falls_short asked (Err why) = is_fault why
+
+-- calls were interrupted so often, 2^64 - 1 times, that the count of it stands at its last value
+abbrev pub NeverLeftAlone : ℕ → Type 0
+NeverLeftAlone interruptions = 2 ^ 64 ≤ interruptions + 1

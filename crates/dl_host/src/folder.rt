@@ -2,17 +2,19 @@
 ghost use Rattle.std.specs.Prelude.{◌≡◌, ◌⊎◌, ◌+◌, ◌≤◌, ◌<◌, ◌^◌, [], true, false, is_err, IsSome, List as Items, ℕ, length, Some, None, IfOk, OnOk, OnErr};
 ghost use Rattle.std.specs.Option.{ForSome};
 ghost use Rattle.dl_base.specs.Outside.{Outside, Touches, Says, Torn, overwritten, portion, extended, Rose};
-ghost use Rattle.dl_host.specs.Hosts.{with_faults, count_after};
+ghost use Rattle.dl_host.specs.Hosts.{with_faults, count_after, NeverLeftAlone};
 ghost use Rattle.dl_host.specs.Held.{AreHeld};
 ghost use Rattle.dl_host.specs.Slots.{slot_of};
 
 use crate::Host;
-use crate::calls::{measured, opened, read_all, synced, tell_all, write_all};
+use crate::again::{locked, measured, synced};
+use crate::calls::{opened, read_all, tell_all, write_all};
 use crate::slots::Slots;
 use dl_base::{Area, Bench, Failed};
 
 /// The files of the areas, each opened at its first use, and standard output. The folder is locked before anything of it
-/// is opened, read, written or told. Contracts see it as its host, with a count of faults of its own.
+/// is opened, read, written or told. A call of the system that was interrupted is made again. Contracts see it as its
+/// host, with a count of faults of its own.
 #[derive(Drop)]
 pub struct FolderBench<H: Host + Drop> {
     host: H,
@@ -62,17 +64,17 @@ impl<H: Host + Drop> FolderBench<H> {
         ensures told { (H.outside self.new.host).told ≡ (H.outside self.old.host).told }
         ensures crash { Says [] (H.outside self.old.host) (H.outside self.new.host) }
         ensures count { self.new.faults ≡ self.old.faults }
-        ensures cause { OnErr result (Rose (H.outside self.old.host) (H.outside self.new.host)) }
+        ensures cause { OnErr result (Rose (H.outside self.old.host) (H.outside self.new.host) ⊎ NeverLeftAlone (H.interruptions self.new.host)) }
     {
         if self.is_locked {
             return Ok(());
         }
-        match self.host.lock() {
+        match locked(&mut self.host) {
             Ok(()) => {
                 self.is_locked = true;
                 Ok(())
             }
-            Err(_) => Err(Failed),
+            Err(Failed) => Err(Failed),
         }
     }
 
@@ -83,7 +85,7 @@ impl<H: Host + Drop> FolderBench<H> {
         ensures same { (H.outside self.new.host).reads area ≡ (H.outside self.old.host).reads area }
         ensures crash { Touches area ((H.outside self.old.host).image area) (H.outside self.old.host) (H.outside self.new.host) }
         ensures count { self.new.faults ≡ self.old.faults }
-        ensures cause { OnErr result (Rose (H.outside self.old.host) (H.outside self.new.host)) }
+        ensures cause { OnErr result (Rose (H.outside self.old.host) (H.outside self.new.host) ⊎ NeverLeftAlone (H.interruptions self.new.host)) }
     {
         self.enter()?;
         if self.slots.at(area).is_some() {
@@ -99,7 +101,7 @@ impl<H: Host + Drop> FolderBench<H> {
         ensures same { (H.outside self.new.host).reads area ≡ (H.outside self.old.host).reads area }
         ensures crash { Touches area ((H.outside self.old.host).image area) (H.outside self.old.host) (H.outside self.new.host) }
         ensures count { self.new.faults ≡ self.old.faults }
-        ensures cause { OnErr result (Rose (H.outside self.old.host) (H.outside self.new.host)) }
+        ensures cause { OnErr result (Rose (H.outside self.old.host) (H.outside self.new.host) ⊎ NeverLeftAlone (H.interruptions self.new.host)) }
     {
         self.open(area)?;
         match self.slots.at(area) {
@@ -114,7 +116,7 @@ impl<H: Host + Drop> FolderBench<H> {
         ensures same { (H.outside self.new.host).reads area ≡ (H.outside self.old.host).reads area }
         ensures crash { Touches area ((H.outside self.old.host).image area) (H.outside self.old.host) (H.outside self.new.host) }
         ensures count { self.new.faults ≡ self.old.faults }
-        ensures cause { OnErr result (Rose (H.outside self.old.host) (H.outside self.new.host) ⊎ 2 ^ 64 < at + length into.old) }
+        ensures cause { OnErr result (Rose (H.outside self.old.host) (H.outside self.new.host) ⊎ NeverLeftAlone (H.interruptions self.new.host) ⊎ 2 ^ 64 < at + length into.old) }
     {
         self.open(area)?;
         match self.slots.at(area) {
@@ -129,7 +131,7 @@ impl<H: Host + Drop> FolderBench<H> {
         ensures written { OnOk result ((H.outside self.new.host).reads area ≡ overwritten at bytes.now ((H.outside self.old.host).reads area)) }
         ensures crash { Touches area (Torn at (length bytes.now) ((H.outside self.old.host).image area)) (H.outside self.old.host) (H.outside self.new.host) }
         ensures count { self.new.faults ≡ self.old.faults }
-        ensures cause { OnErr result (Rose (H.outside self.old.host) (H.outside self.new.host)) }
+        ensures cause { OnErr result (Rose (H.outside self.old.host) (H.outside self.new.host) ⊎ NeverLeftAlone (H.interruptions self.new.host)) }
     {
         self.open(area)?;
         match self.slots.at(area) {
@@ -143,7 +145,7 @@ impl<H: Host + Drop> FolderBench<H> {
         ensures same { (H.outside self.new.host).reads area ≡ (H.outside self.old.host).reads area }
         ensures crash { Touches area ((H.outside self.old.host).image area) (H.outside self.old.host) (H.outside self.new.host) }
         ensures count { self.new.faults ≡ self.old.faults }
-        ensures cause { OnErr result (Rose (H.outside self.old.host) (H.outside self.new.host)) }
+        ensures cause { OnErr result (Rose (H.outside self.old.host) (H.outside self.new.host) ⊎ NeverLeftAlone (H.interruptions self.new.host)) }
     {
         self.open(area)?;
         match self.slots.at(area) {
@@ -156,7 +158,7 @@ impl<H: Host + Drop> FolderBench<H> {
         ensures told { OnOk result ((H.outside self.new.host).told ≡ extended bytes.now (H.outside self.old.host).told) }
         ensures crash { Says bytes.now (H.outside self.old.host) (H.outside self.new.host) }
         ensures count { self.new.faults ≡ self.old.faults }
-        ensures cause { OnErr result (Rose (H.outside self.old.host) (H.outside self.new.host)) }
+        ensures cause { OnErr result (Rose (H.outside self.old.host) (H.outside self.new.host) ⊎ NeverLeftAlone (H.interruptions self.new.host)) }
     {
         self.enter()?;
         tell_all(&mut self.host, bytes)
@@ -174,7 +176,7 @@ impl<H: Host + Drop> Bench for FolderBench<H> {
         ensures crash { Touches area ((H.outside self.old.host).image area) (with_faults self.old.faults (H.outside self.old.host)) (with_faults self.new.faults (H.outside self.new.host)) }
         ensures cause { OnErr result (Rose (with_faults self.old.faults (H.outside self.old.host)) (with_faults self.new.faults (H.outside self.new.host))) }
         ensures exactly { self.new.faults ≡ count_after (is_err result) self.old.faults }
-        ensures by_host { OnErr result (Rose (H.outside self.old.host) (H.outside self.new.host)) }
+        ensures by_host { OnErr result (Rose (H.outside self.old.host) (H.outside self.new.host) ⊎ NeverLeftAlone (H.interruptions self.new.host)) }
     {
         let answer = self.length_of(area);
         self.counted(answer)
@@ -187,7 +189,7 @@ impl<H: Host + Drop> Bench for FolderBench<H> {
         ensures crash { Touches area ((H.outside self.old.host).image area) (with_faults self.old.faults (H.outside self.old.host)) (with_faults self.new.faults (H.outside self.new.host)) }
         ensures cause { OnErr result (Rose (with_faults self.old.faults (H.outside self.old.host)) (with_faults self.new.faults (H.outside self.new.host))) }
         ensures exactly { self.new.faults ≡ count_after (is_err result) self.old.faults }
-        ensures by_host { OnErr result (Rose (H.outside self.old.host) (H.outside self.new.host) ⊎ 2 ^ 64 < at + length into.old) }
+        ensures by_host { OnErr result (Rose (H.outside self.old.host) (H.outside self.new.host) ⊎ NeverLeftAlone (H.interruptions self.new.host) ⊎ 2 ^ 64 < at + length into.old) }
     {
         let answer = self.read_from(area, at, into);
         self.counted(answer)
@@ -200,7 +202,7 @@ impl<H: Host + Drop> Bench for FolderBench<H> {
         ensures crash { Touches area (Torn at (length bytes.now) ((H.outside self.old.host).image area)) (with_faults self.old.faults (H.outside self.old.host)) (with_faults self.new.faults (H.outside self.new.host)) }
         ensures cause { OnErr result (Rose (with_faults self.old.faults (H.outside self.old.host)) (with_faults self.new.faults (H.outside self.new.host))) }
         ensures exactly { self.new.faults ≡ count_after (is_err result) self.old.faults }
-        ensures by_host { OnErr result (Rose (H.outside self.old.host) (H.outside self.new.host)) }
+        ensures by_host { OnErr result (Rose (H.outside self.old.host) (H.outside self.new.host) ⊎ NeverLeftAlone (H.interruptions self.new.host)) }
     {
         let answer = self.write_to(area, at, bytes);
         self.counted(answer)
@@ -212,7 +214,7 @@ impl<H: Host + Drop> Bench for FolderBench<H> {
         ensures crash { Touches area ((H.outside self.old.host).image area) (with_faults self.old.faults (H.outside self.old.host)) (with_faults self.new.faults (H.outside self.new.host)) }
         ensures cause { OnErr result (Rose (with_faults self.old.faults (H.outside self.old.host)) (with_faults self.new.faults (H.outside self.new.host))) }
         ensures exactly { self.new.faults ≡ count_after (is_err result) self.old.faults }
-        ensures by_host { OnErr result (Rose (H.outside self.old.host) (H.outside self.new.host)) }
+        ensures by_host { OnErr result (Rose (H.outside self.old.host) (H.outside self.new.host) ⊎ NeverLeftAlone (H.interruptions self.new.host)) }
     {
         let answer = self.sync_of(area);
         self.counted(answer)
@@ -223,7 +225,7 @@ impl<H: Host + Drop> Bench for FolderBench<H> {
         ensures crash { Says bytes.now (with_faults self.old.faults (H.outside self.old.host)) (with_faults self.new.faults (H.outside self.new.host)) }
         ensures cause { OnErr result (Rose (with_faults self.old.faults (H.outside self.old.host)) (with_faults self.new.faults (H.outside self.new.host))) }
         ensures exactly { self.new.faults ≡ count_after (is_err result) self.old.faults }
-        ensures by_host { OnErr result (Rose (H.outside self.old.host) (H.outside self.new.host)) }
+        ensures by_host { OnErr result (Rose (H.outside self.old.host) (H.outside self.new.host) ⊎ NeverLeftAlone (H.interruptions self.new.host)) }
     {
         let answer = self.tell(bytes);
         self.counted(answer)

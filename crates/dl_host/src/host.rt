@@ -1,10 +1,10 @@
 // What the areas and the script ask of the system, one call a method.
-ghost use Rattle.std.specs.Prelude.{◌≡◌, ◌+◌, ◌≤◌, ◌<◌, ◌^◌, Bool, true, List, ℕ, [], length, take, is_err, Option, Some, Err, IfOk, OnOk};
+ghost use Rattle.std.specs.Prelude.{◌≡◌, ◌+◌, ◌≤◌, ◌<◌, ◌^◌, Bool, true, List, ℕ, [], length, take, Option, Some, Err, IfOk, OnOk};
 ghost use Rattle.dl_base.specs.declared.area.Area.{Area};
 ghost use Rattle.std.specs.Option.{ForSome};
 ghost use Rattle.dl_base.specs.Outside.{Outside, Touches, Says, Torn, overwritten, portion, extended, IsLawful};
 ghost use Rattle.dl_base.specs.Sources.{Took};
-ghost use Rattle.dl_host.specs.Hosts.{Hold, Stays, name_of, count_after, falls_short};
+ghost use Rattle.dl_host.specs.Hosts.{Hold, Stays, name_of, count_after, has_failed, was_interrupted, falls_short};
 
 use dl_base::Area;
 
@@ -23,8 +23,11 @@ pub trait Host {
     type File: Drop;
 
     /// What stands outside: what the files read, what was told, what a crash may leave, and the time. No file reads as
-    /// no bytes. Its faults are the calls that failed or were interrupted, or did none of the bytes that were asked for.
+    /// no bytes. Its faults are the calls that failed, or did none of the bytes that were asked for.
     ghost outside: { Self → Outside };
+
+    /// How many calls were interrupted: these are no faults.
+    ghost interruptions: { Self → ℕ };
 
     /// Whether the folder is locked for this run, and which files' names outlive a crash.
     ghost hold: { Self → Hold };
@@ -38,7 +41,8 @@ pub trait Host {
         ensures told { (outside self.new).told ≡ (outside self.old).told }
         ensures crash { Says [] (outside self.old) (outside self.new) }
         ensures stays { Stays (hold self.old) (hold self.new) }
-        ensures faults { (outside self.new).faults ≡ count_after (is_err result) (outside self.old).faults };
+        ensures faults { (outside self.new).faults ≡ count_after (has_failed result) (outside self.old).faults }
+        ensures interruptions { interruptions self.new ≡ count_after (was_interrupted result) (interruptions self.old) };
 
     /// Opens the file of an area, which has this name in the folder, and makes it where there is none.
     fn open(&mut self, area: Area, name: &str) -> Result<Self::File, Stop>
@@ -48,7 +52,8 @@ pub trait Host {
         ensures same { (outside self.new).reads area ≡ (outside self.old).reads area }
         ensures crash { Touches area ((outside self.old).image area) (outside self.old) (outside self.new) }
         ensures stays { Stays (hold self.old) (hold self.new) }
-        ensures faults { (outside self.new).faults ≡ count_after (is_err result) (outside self.old).faults };
+        ensures faults { (outside self.new).faults ≡ count_after (has_failed result) (outside self.old).faults }
+        ensures interruptions { interruptions self.new ≡ count_after (was_interrupted result) (interruptions self.old) };
 
     /// Syncs the folder, after which the file's name outlives a crash.
     fn sync_folder(&mut self, file: &Self::File) -> Result<(), Stop>
@@ -57,7 +62,8 @@ pub trait Host {
         ensures same { (outside self.new).reads (area_of file.now) ≡ (outside self.old).reads (area_of file.now) }
         ensures crash { Touches (area_of file.now) ((outside self.old).image (area_of file.now)) (outside self.old) (outside self.new) }
         ensures stays { Stays (hold self.old) (hold self.new) }
-        ensures faults { (outside self.new).faults ≡ count_after (is_err result) (outside self.old).faults };
+        ensures faults { (outside self.new).faults ≡ count_after (has_failed result) (outside self.old).faults }
+        ensures interruptions { interruptions self.new ≡ count_after (was_interrupted result) (interruptions self.old) };
 
     /// How many bytes the file has.
     fn length(&mut self, file: &Self::File) -> Result<u64, Stop>
@@ -66,7 +72,8 @@ pub trait Host {
         ensures same { (outside self.new).reads (area_of file.now) ≡ (outside self.old).reads (area_of file.now) }
         ensures crash { Touches (area_of file.now) ((outside self.old).image (area_of file.now)) (outside self.old) (outside self.new) }
         ensures stays { Stays (hold self.old) (hold self.new) }
-        ensures faults { (outside self.new).faults ≡ count_after (is_err result) (outside self.old).faults };
+        ensures faults { (outside self.new).faults ≡ count_after (has_failed result) (outside self.old).faults }
+        ensures interruptions { interruptions self.new ≡ count_after (was_interrupted result) (interruptions self.old) };
 
     /// Reads bytes from there on into the front of the buffer, and says how many; maybe fewer than there are.
     fn read_at(&mut self, file: &Self::File, at: u64, into: &mut [u8]) -> Result<usize, Stop>
@@ -76,7 +83,8 @@ pub trait Host {
         ensures same { (outside self.new).reads (area_of file.now) ≡ (outside self.old).reads (area_of file.now) }
         ensures crash { Touches (area_of file.now) ((outside self.old).image (area_of file.now)) (outside self.old) (outside self.new) }
         ensures stays { Stays (hold self.old) (hold self.new) }
-        ensures faults { (outside self.new).faults ≡ count_after (falls_short (length into.old) result) (outside self.old).faults };
+        ensures faults { (outside self.new).faults ≡ count_after (falls_short (length into.old) result) (outside self.old).faults }
+        ensures interruptions { interruptions self.new ≡ count_after (was_interrupted result) (interruptions self.old) };
 
     /// Writes the first of these bytes over what is there, and past the end, and says how many. Until a sync, a crash may
     /// leave any bytes in the range.
@@ -89,7 +97,8 @@ pub trait Host {
         ensures again { result ≡ Err Stop.Interrupted → (outside self.new).reads (area_of file.now) ≡ (outside self.old).reads (area_of file.now) }
         ensures crash { Touches (area_of file.now) (Torn at (length bytes.now) ((outside self.old).image (area_of file.now))) (outside self.old) (outside self.new) }
         ensures stays { Stays (hold self.old) (hold self.new) }
-        ensures faults { (outside self.new).faults ≡ count_after (falls_short (length bytes.now) result) (outside self.old).faults };
+        ensures faults { (outside self.new).faults ≡ count_after (falls_short (length bytes.now) result) (outside self.old).faults }
+        ensures interruptions { interruptions self.new ≡ count_after (was_interrupted result) (interruptions self.old) };
 
     /// After it, a crash leaves what a read gives, where the file's name outlives a crash.
     fn sync(&mut self, file: &Self::File) -> Result<(), Stop>
@@ -99,7 +108,8 @@ pub trait Host {
         ensures same { (outside self.new).reads (area_of file.now) ≡ (outside self.old).reads (area_of file.now) }
         ensures crash { Touches (area_of file.now) ((outside self.old).image (area_of file.now)) (outside self.old) (outside self.new) }
         ensures stays { Stays (hold self.old) (hold self.new) }
-        ensures faults { (outside self.new).faults ≡ count_after (is_err result) (outside self.old).faults };
+        ensures faults { (outside self.new).faults ≡ count_after (has_failed result) (outside self.old).faults }
+        ensures interruptions { interruptions self.new ≡ count_after (was_interrupted result) (interruptions self.old) };
 
     /// Writes the first of these bytes to standard output, and says how many. At `Failed` some front of them was told.
     fn tell(&mut self, bytes: &[u8]) -> Result<usize, Stop>
@@ -109,7 +119,8 @@ pub trait Host {
         ensures again { result ≡ Err Stop.Interrupted → (outside self.new).told ≡ (outside self.old).told }
         ensures crash { Says bytes.now (outside self.old) (outside self.new) }
         ensures stays { Stays (hold self.old) (hold self.new) }
-        ensures faults { (outside self.new).faults ≡ count_after (falls_short (length bytes.now) result) (outside self.old).faults };
+        ensures faults { (outside self.new).faults ≡ count_after (falls_short (length bytes.now) result) (outside self.old).faults }
+        ensures interruptions { interruptions self.new ≡ count_after (was_interrupted result) (interruptions self.old) };
 
     /// The system keeps the laws of a device.
     ghost lawful: { (host : Self) → IsLawful (outside host) };
@@ -120,8 +131,11 @@ pub trait Reader {
     /// The bytes left, where it tells them.
     ghost rest: { Self → Option (List ℕ) };
 
-    /// How many calls failed or were interrupted.
+    /// How many calls failed.
     ghost faults: { Self → ℕ };
+
+    /// How many calls were interrupted.
+    ghost interruptions: { Self → ℕ };
 
     /// Reads the next bytes into the front of the buffer, and says how many.
     /// At a buffer that has room it reads none only at the end.
@@ -130,5 +144,6 @@ pub trait Reader {
         ensures bytes { IfOk result (λ n. Took (take n into.new) (rest self.old) (rest self.new)) }
         ensures end { IfOk result (λ n. n ≡ 0 → 0 < length into.old → (left : List ℕ) → rest self.old ≡ Some left → left ≡ []) }
         ensures again { result ≡ Err Stop.Interrupted → rest self.new ≡ rest self.old }
-        ensures faults { faults self.new ≡ count_after (is_err result) (faults self.old) };
+        ensures faults { faults self.new ≡ count_after (has_failed result) (faults self.old) }
+        ensures interruptions { interruptions self.new ≡ count_after (was_interrupted result) (interruptions self.old) };
 }

@@ -1,12 +1,12 @@
 // The script, from a stream.
-ghost use Rattle.std.specs.Prelude.{◌≡◌, ◌<◌, ◌≤◌, [], List, ℕ, length, take, is_err, Some, IfOk, OnErr};
+ghost use Rattle.std.specs.Prelude.{◌≡◌, ◌⊎◌, ◌<◌, ◌≤◌, [], List, ℕ, length, take, is_err, Some, IfOk, OnErr};
 ghost use Rattle.dl_base.specs.Sources.{Took, RoseFrom};
-ghost use Rattle.dl_host.specs.Hosts.{count_after};
+ghost use Rattle.dl_host.specs.Hosts.{count_after, NeverLeftAlone};
 
 use crate::{Reader, Stop};
 use dl_base::{Failed, Source};
 
-/// A stream as the source of a script, which counts its faults.
+/// A stream as the source of a script, which counts its faults. A read that was interrupted is made again.
 #[derive(Drop)]
 pub struct InputSource<R: Reader + Drop> {
     reader: R,
@@ -33,7 +33,7 @@ impl<R: Reader + Drop> Source for InputSource<R> {
         ensures never_falls { self.old.faults ≤ self.new.faults }
         ensures cause { OnErr result (RoseFrom self.old.faults self.new.faults) }
         ensures exactly { self.new.faults ≡ count_after (is_err result) self.old.faults }
-        ensures by_reader { OnErr result (RoseFrom (R.faults self.old.reader) (R.faults self.new.reader)) }
+        ensures by_reader { OnErr result (RoseFrom (R.faults self.old.reader) (R.faults self.new.reader) ⊎ NeverLeftAlone (R.interruptions self.new.reader)) }
     {
         let answer = read(&mut self.reader, into);
         if answer.is_err() {
@@ -43,14 +43,14 @@ impl<R: Reader + Drop> Source for InputSource<R> {
     }
 }
 
-/// Reads the next bytes; an interrupted call is followed by another.
+/// Reads the next bytes; an interrupted call is made again.
 fn read<R: Reader>(reader: &mut R, into: &mut [u8]) -> Result<usize, Failed>
     ensures count { IfOk result (λ n. n ≤ length into.old) }
     ensures bytes { IfOk result (λ n. Took (take n into.new) (R.rest reader.old) (R.rest reader.new)) }
     ensures end { IfOk result (λ n. n ≡ 0 → 0 < length into.old → (left : List ℕ) → R.rest reader.old ≡ Some left → left ≡ []) }
-    ensures cause { OnErr result (RoseFrom (R.faults reader.old) (R.faults reader.new)) }
+    ensures cause { OnErr result (RoseFrom (R.faults reader.old) (R.faults reader.new) ⊎ NeverLeftAlone (R.interruptions reader.new)) }
 {
-    'more: for _turn in 0..u64::MAX {
+    'again: for _turn in 0..u64::MAX {
         match reader.read(into) {
             Ok(count) => return Ok(count),
             Err(Stop::Interrupted) => {}

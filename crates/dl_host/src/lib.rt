@@ -1,6 +1,7 @@
 //! The five areas as files of a folder, and the script as a stream, over single calls of the system.
 #![tactic(auto)]
 
+mod again;
 mod calls;
 mod folder;
 mod host;

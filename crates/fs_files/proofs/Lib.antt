@@ -1,3 +1,4 @@
 pub mod Folding
+pub mod Listing
 pub mod Tables
 pub mod Writing

@@ -14,10 +14,10 @@ use Rattle.meaning_files.specs.Files.{Files, with_owner}
 abbrev pub files_of : List (List ℕ × File) → Files
 files_of es = files.from_entries es
 
-only_same : files.IsAntisymmetric (slice_cmp nat_cmp)
+pub only_same : files.IsAntisymmetric (slice_cmp nat_cmp)
 only_same = files.slice_cmp-IsAntisymmetric files.nat_cmp-IsAntisymmetric
 
-found : (q : List ℕ) (es : List (List ℕ × File)) → files.find (slice_cmp nat_cmp) q es ≡ lookup (pointwise nat_eq q) es
+pub found : (q : List ℕ) (es : List (List ℕ × File)) → files.find (slice_cmp nat_cmp) q es ≡ lookup (pointwise nat_eq q) es
 found q [] = refl
 found q (e ∷ es) = λ i. cond (sym (texts_ties q e.0) i) (Some e.1) (found q es i)
 

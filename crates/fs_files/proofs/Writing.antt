@@ -1,22 +1,28 @@
 -- What an append leaves of the files.
-use Rattle.std.proofs.Common.{◌≡◌, inl, inr, ⊎_elim, ℕ, List, [], ◌∷◌, ◌++◌, sym, ap, subst, ◌∙◌, Option, Some, None}
+use Rattle.std.proofs.Common.{◌≡◌, inl, inr, ⊎_elim, ℕ, List, [], ◌∷◌, ◌++◌, refl, sym, ap, subst, ◌∙◌, Option, Some, None, Result, Ok, Err}
+use Rattle.std.specs.Result.{OnOk}
+use Rattle.std.specs.FinMap as map
 use Rattle.dl_base.proofs.Moments.{touches_none, touches_more}
 use Rattle.dl_base.specs.Outside.{Outside, Touches}
 use Rattle.dl_base.specs.declared.answer.FileRefusal.{FileRefusal}
 use Rattle.dl_base.specs.declared.area.Area.{Area}
 use Rattle.dl_base.specs.declared.area.Area.TheVariants as areas
+use Rattle.dl_base.specs.declared.file.File.{File}
 use Rattle.dl_base.specs.declared.file.FileChange.{FileChange}
+use Rattle.dl_base.specs.declared.file.FileChange.TheVariants as changes
 use Rattle.dl_base.specs.declared.file.FileCmd.{FileCmd}
+use Rattle.dl_base.specs.declared.file.FileWhat.{FileWhat}
+use Rattle.dl_base.specs.declared.file.FileWhat.TheVariants as whats
 use Rattle.dl_codec.specs.Files.{files_record}
 use Rattle.dl_codec.specs.declared.files.FilesRecord.TheVariants as records
 use Rattle.dl_journal.specs.Extent.{Extent}
 use Rattle.dl_journal.specs.Open.{Keeps, AddsOne, grown}
 use Rattle.dl_journal.specs.Records.{IsAtRest}
-use Rattle.fs_files.specs.Store.{Catalog, extent, Holds, Stands, StandsWithout, StandsAround}
-use Rattle.meaning_areas.proofs.FilesLaws.{files_of-push, files_step-user_record, changes_of-accepted}
-use Rattle.meaning_areas.specs.FilesArea.{with_changes, changes_of, user_record, user_records, accepted_writes, writes}
-use Rattle.meaning_files.specs.Commands.{refusal, changed}
-use Rattle.meaning_files.specs.Files.{Files}
+use Rattle.fs_files.specs.Store.{Catalog, extent, Holds, Stands, StandsWithout, StandsAround, IsWriting, record_of}
+use Rattle.meaning_areas.proofs.FilesLaws.{files_of-push, files_step-user_record, file-there, command-does}
+use Rattle.meaning_areas.specs.FilesArea.{user_record, user_records, accepted_writes, writes}
+use Rattle.meaning_files.specs.Commands.{refusal_of, refusal, with_file, put, command_changes, changed}
+use Rattle.meaning_files.specs.Files.{Files, with_changes}
 
 -- what a journal of the area Files and some files are seen as
 abbrev pub seen : Extent → Files → Catalog
@@ -67,18 +73,45 @@ writes_record now j files made body o n view at fits is t =
         }))
         (adds bodies before)
 
+-- a command that writes is one record
+recorded : (o : Option File) (f : File) → o ≡ Some f → (c : File → FileChange) (cs : File → List FileChange) → user_records (with_file o (λ g. c g ∷ cs g)) ≡ user_record (with_file o (λ g. c g ∷ cs g)) ∷ []
+recorded None f at c cs = absurd cc
+recorded (Some g) f at c cs = refl
+
+one-record : (files : Files) (user : List ℕ) (what : FileWhat) → refusal_of files None user what ≡ None → IsWriting what → user_records (command_changes files user what) ≡ user_record (command_changes files user what) ∷ []
+one-record files user (whats.Create path bytes) e w = refl
+one-record files user (whats.Write path bytes) e w =
+    let f = file-there path (map.get files path) _ e in
+    recorded (map.get files path) f.0 f.1 (λ g. put path (record { owner = g.owner; bytes = bytes; before = g.before })) (λ g. [])
+one-record files user (whats.Delete path) e w = refl
+one-record files user (whats.Rename path to) e w =
+    let f = file-there path (map.get files path) _ e in
+    recorded (map.get files path) f.0 f.1 (λ g. changes.Removed path) (λ g. put to g ∷ [])
+one-record files user (whats.Chmod path on) e w =
+    let f = file-there path (map.get files path) _ e in
+    recorded (map.get files path) f.0 f.1 (λ g. changes.Kept path (record { name = g.owner.name; writable = on }) g.before) (λ g. [])
+one-record files user (whats.Read path token) e w = absurd w
+one-record files user whats.List e w = absurd w
+
+pub writes-one : (files : Files) (cmd : FileCmd) → refusal files cmd ≡ None → IsWriting cmd.what → writes files cmd ≡ record_of files cmd ∷ []
+writes-one files cmd accepted writing =
+    ap (λ (o : Option FileRefusal). accepted_writes o (user_records (command_changes files cmd.user cmd.what))) accepted
+    ∙ one-record files cmd.user cmd.what accepted writing
+
+-- its changes are taken
+pub command-taken : (files : Files) (cmd : FileCmd) (made : List FileChange) → refusal files cmd ≡ None → made ≡ command_changes files cmd.user cmd.what → with_changes files made ≡ Some (changed files cmd)
+command-taken files cmd made accepted is = ap (λ (cs : List FileChange). with_changes files cs) is ∙ command-does files None cmd accepted
+
+pub on_ok : {T E P Q : Type 0} (r : Result T E) → OnOk r P → (P → Q) → OnOk r Q
+on_ok (Ok x) p f = f p
+on_ok (Err e) p f = p
+
 -- a command is done
-pub command_around : (now : Catalog) (cmd : FileCmd) (change : FileChange) (o n : Outside) → refusal now.files cmd ≡ None → changes_of cmd.user cmd.what ≡ change ∷ []
-    → Touches areas.Files (StandsWithout now (change ∷ []) o) o n → Touches areas.Files (StandsAround now cmd o) o n
-command_around now cmd change o n accepted is t = touches_more areas.Files (StandsWithout now (change ∷ []) o) (StandsAround now cmd o) o n wider t
+pub command_around : (now : Catalog) (cmd : FileCmd) (made : List FileChange) (o n : Outside) → refusal now.files cmd ≡ None → IsWriting cmd.what → made ≡ command_changes now.files cmd.user cmd.what
+    → Touches areas.Files (StandsWithout now made o) o n → Touches areas.Files (StandsAround now cmd o) o n
+command_around now cmd made o n accepted writing is t = touches_more areas.Files (StandsWithout now made o) (StandsAround now cmd o) o n wider t
   where
-    made : with_changes now.files (change ∷ []) ≡ Some (changed now.files cmd)
-    made = ap (λ (cs : List FileChange). with_changes now.files cs) (sym is) ∙ changes_of-accepted now.files cmd.user cmd.what accepted
-
-    one : user_record (change ∷ []) ∷ [] ≡ writes now.files cmd
-    one = ap user_records (sym is) ∙ ap (λ (why : Option FileRefusal). accepted_writes why (user_records (changes_of cmd.user cmd.what))) (sym accepted)
-
-    wider : (c : List ℕ) → StandsWithout now (change ∷ []) o c → StandsAround now cmd o c
+    wider : (c : List ℕ) → StandsWithout now made o c → StandsAround now cmd o c
     wider c stands bodies held = ⊎_elim (λ old. inl old)
-        (λ new. inr (subst (λ (more : List (List ℕ)). Stands (bodies ++ more) (changed now.files cmd) c) one new))
-        (stands bodies (changed now.files cmd) made held)
+        (λ new. inr (subst (λ (more : List (List ℕ)). Stands (bodies ++ more) (changed now.files cmd) c) (ap (λ (cs : List FileChange). user_record cs ∷ []) is ∙ sym (writes-one now.files cmd accepted writing)) new))
+        (stands bodies (changed now.files cmd) (command-taken now.files cmd made accepted is) held)

@@ -1,5 +1,5 @@
 -- What contracts see of the files that are open on a bench.
-use Rattle.std.specs.Prelude.{◌≡◌, ◌⊎◌, ◌++◌, ℕ, ◌+◌, ◌-◌, ◌<◌, ◌^◌, min, List, [], ◌∷◌, length, Some, IsSome, Ok, refl}
+use Rattle.std.specs.Prelude.{◌≡◌, ◌⊎◌, ◌++◌, ℕ, ◌+◌, ◌-◌, ◌<◌, ◌^◌, min, List, [], ◌∷◌, length, Some, Ok, refl}
 use Rattle.std.specs.Coded.{Coded, code_by, coded×, coded_ℕ}
 use Rattle.dl_base.specs.Outside.{Outside}
 use Rattle.dl_base.specs.declared.area.Area.TheVariants as areas
@@ -14,9 +14,9 @@ use Rattle.dl_codec.specs.declared.files.FilesRecord.TheVariants as records
 use Rattle.dl_journal.specs.Extent.{Extent}
 use Rattle.dl_journal.specs.Open.{Keeps, IsOpen}
 use Rattle.dl_journal.specs.Records.{IsAtRest}
-use Rattle.meaning_areas.specs.FilesArea.{files_of, changes_of, user_record, with_change, with_changes, writes}
-use Rattle.meaning_files.specs.Commands.{changed}
-use Rattle.meaning_files.specs.Files.{Files, files_code}
+use Rattle.meaning_areas.specs.FilesArea.{files_of, user_record, writes}
+use Rattle.meaning_files.specs.Commands.{changed, command_changes}
+use Rattle.meaning_files.specs.Files.{Files, files_code, with_changes}
 
 -- the files, how many bytes their area has up to behind the closing gate, and how many it may have
 pub record Catalog : Type 0 where
@@ -55,15 +55,19 @@ StandsAround old cmd o c = (bodies : List (List ℕ)) → Holds old bodies o
 abbrev pub IsReady : Catalog → Outside → Type 0
 IsReady c o = IsOpen (extent c) o
 
--- a command that writes into the area: a create or a delete
+-- a command that writes into the area
 abbrev pub IsWriting : FileWhat → Type 0
 IsWriting (whats.Create path bytes) = Unit {0}
+IsWriting (whats.Write path bytes) = Unit {0}
 IsWriting (whats.Delete path) = Unit {0}
-IsWriting _ = ⊥
+IsWriting (whats.Rename path to) = Unit {0}
+IsWriting (whats.Chmod path on) = Unit {0}
+IsWriting (whats.Read path token) = ⊥
+IsWriting whats.List = ⊥
 
--- the record of a command
-abbrev pub record_of : FileCmd → List ℕ
-record_of cmd = user_record (changes_of cmd.user cmd.what)
+-- the record of a command on these files
+abbrev pub record_of : Files → FileCmd → List ℕ
+record_of files cmd = user_record (command_changes files cmd.user cmd.what)
 
 -- the area as it would be with one more body, and that it passes the limit
 abbrev pub full_with : Catalog → List ℕ → Full
@@ -72,8 +76,6 @@ full_with c body = fulls.Area areas.Files (min (c.length + 9 + length body) (2 ^
 abbrev pub IsFullWith : Catalog → List ℕ → Type 0
 IsFullWith c body = c.limit < c.length + 9 + length body
 
--- a record with one change, which the fold takes
-abbrev pub IsTakenAlone : Files → FilesRecord → Type 0
-IsTakenAlone files (records.Batch tx []) = ⊥
-IsTakenAlone files (records.Batch tx (made ∷ [])) = IsSome (with_change files made)
-IsTakenAlone files (records.Batch tx (made ∷ other ∷ more)) = ⊥
+-- the changes of a record
+abbrev pub changes_in : FilesRecord → List FileChange
+changes_in (records.Batch tx made) = made

@@ -1,9 +1,10 @@
 // What the records of the area Files stand for.
-ghost use Rattle.std.specs.Prelude.{◌≡◌, ◌≢◌, ◌<◌, ◌^◌, ℕ, [], ◌∷◌, Some, None, Ok, Err, IsOk, IfOk, length};
+ghost use Rattle.std.specs.Prelude.{◌≡◌, ◌≢◌, ◌<◌, ◌≤◌, ◌+◌, ◌^◌, ℕ, [], ◌∷◌, Some, None, Ok, Err, IsOk, IsSome, IfOk, length};
 ghost use Rattle.std.specs.Bool.{MatchBool};
 ghost use Rattle.dl_journal.specs.Records.{size};
-ghost use Rattle.fs_files.specs.Store.{IsTakenAlone};
-ghost use Rattle.meaning_areas.specs.FilesArea.{with_change, with_changes, with_record, files_step, files_of};
+ghost use Rattle.fs_files.specs.Store.{changes_in};
+ghost use Rattle.meaning_areas.specs.FilesArea.{with_record, files_step, files_of};
+ghost use Rattle.meaning_files.specs.Files.{with_change, with_changes};
 
 use crate::table::FileTable;
 use dl_base::{BeginFault, FileChange, FileRow, List, Memory, Text};
@@ -11,9 +12,10 @@ use dl_codec::{FilesRecord, get_files_record};
 use std::alloc::Global;
 
 /// Makes one change, and says whether the fold takes it. Where there is room it takes no memory.
-pub fn change(table: &mut FileTable, change: FileChange) -> Result<bool, Memory>
+fn change(table: &mut FileTable, change: FileChange) -> Result<bool, Memory>
     ensures made { IfOk result (λ taken. MatchBool taken (with_change table.old.files change ≡ Some table.new.files) (with_change table.old.files change ≡ None)) }
     ensures room { 0 < table.old.spare → IsOk result }
+    ensures spare { table.old.spare ≤ table.new.spare + 1 }
 {
     match change {
         FileChange::Removed(path) => Ok(table.remove(&path)),
@@ -37,15 +39,15 @@ pub fn change_all(table: &mut FileTable, changes: List<FileChange>) -> Result<bo
     Ok(true)
 }
 
-/// Makes the one change of a record, for which there is room.
+/// Makes the changes of a record, for which there is room.
 pub fn make_batch(table: &mut FileTable, batch: FilesRecord)
-    requires room { 0 < table.old.spare }
-    requires alone { IsTakenAlone table.old.files batch }
+    requires room { length (changes_in batch) ≤ table.old.spare }
+    requires taken { IsSome (with_changes table.old.files (changes_in batch)) }
     ensures { with_record table.old.files (Some batch) ≡ Some table.new.files }
 {
-    let FilesRecord::Batch(_, mut changes) = batch;
-    if let Some(made) = changes.pop() {
-        let _ = change(table, made);
+    let FilesRecord::Batch(_, changes) = batch;
+    for next in changes.into_vec() {
+        let _ = change(table, next);
     }
 }
 

@@ -5,18 +5,18 @@ ghost use Rattle.std.specs.Option.{option_copied};
 ghost use Rattle.dl_base.specs.Outside.{Touches, Rose};
 ghost use Rattle.dl_base.specs.declared.area.Area.TheVariants as areas;
 ghost use Rattle.dl_base.specs.declared.fault.Full.{Full};
-ghost use Rattle.dl_codec.specs.declared.files.FilesRecord.TheVariants.{Batch};
 ghost use Rattle.dl_journal.specs.Open.{IsList, IsOpening, IsUnwritten, ReadsSameList};
 ghost use Rattle.fs_files.specs.Store.{Holds, IsReady, IsWriting, StandsWithout, StandsAround, record_of, full_with, IsFullWith};
-ghost use Rattle.meaning_areas.specs.FilesArea.{files_in, with_changes, user_record, writes};
-ghost use Rattle.meaning_files.specs.Commands.{refusal, refusal_of, changed, changed_by, create_refusal, delete_refusal, read_refusal};
+ghost use Rattle.meaning_areas.specs.FilesArea.{files_in, user_record, writes};
+ghost use Rattle.meaning_files.specs.Commands.{needs_file, if_forbidden, not_owner, read_only, if_exists, too_many, refusal_of, refusal, new_file, put, command_changes, changed, rows_of};
+ghost use Rattle.meaning_files.specs.Files.{with_changes};
 
 use crate::fold::{fold, make_batch};
 use crate::table::FileTable;
 use dl_base::limits::MOST_FILES;
 use dl_base::{
-    Area, BeginFault, Bench, File, FileChange, FileCmd, FileRefusal, FileRow, FileWhat, Limit,
-    List, Memory, Name, Owner, Path, StepFault,
+    Area, BeginFault, Bench, Copied, File, FileChange, FileCmd, FileRefusal, FileRow, FileWhat,
+    Limit, LinkNo, List, Memory, Name, Owner, Path, StepFault, Text, Why,
 };
 use dl_codec::{FilesRecord, put_files_record};
 use dl_journal::Journal;
@@ -85,24 +85,38 @@ impl Files {
         self.table.get(path)
     }
 
-    /// Why a command is refused, if it is.
-    pub fn test(&self, cmd: &FileCmd) -> Result<Option<FileRefusal>, Memory>
-        ensures value { IfOk result (λ why. why ≡ refusal self.now.files cmd.now) }
+    /// All files, in the order of the paths' bytes.
+    pub fn list(&self) -> Result<List<FileRow>, Memory>
+        ensures { IfOk result (λ rows. rows ≡ rows_of self.now.files) }
+    {
+        self.table.list(self.alloc)
+    }
+
+    /// Why a command is refused, if it is, where this link of its path forbids it, if one does.
+    pub fn test(
+        &self,
+        cmd: &FileCmd,
+        forbidden: Option<(LinkNo, Why)>,
+    ) -> Result<Option<FileRefusal>, Memory>
+        ensures value { IfOk result (λ why. why ≡ refusal_of self.now.files forbidden cmd.now.user cmd.now.what) }
 
         // It takes memory only for what a refusal says.
-        ensures accepted { refusal self.now.files cmd.now ≡ None → result ≡ Ok None }
+        ensures accepted { refusal_of self.now.files forbidden cmd.now.user cmd.now.what ≡ None → result ≡ Ok None }
     {
         match &cmd.what {
             FileWhat::Create(path, _) => self.test_create(path),
-            FileWhat::Delete(path) => self.test_delete(&cmd.user, path),
-            FileWhat::Read(path, _) => self.test_read(path),
-            _ => Ok(None),
+            FileWhat::Write(path, _) => self.test_write(&cmd.user, path, forbidden),
+            FileWhat::Delete(path) => self.test_owner(&cmd.user, path, forbidden),
+            FileWhat::Rename(path, to) => self.test_rename(&cmd.user, path, to, forbidden),
+            FileWhat::Chmod(path, _) => self.test_owner(&cmd.user, path, forbidden),
+            FileWhat::Read(path, _) => self.test_read(path, forbidden),
+            FileWhat::List => Ok(None),
         }
     }
 
     fn test_create(&self, path: &Path) -> Result<Option<FileRefusal>, Memory>
-        ensures value { IfOk result (λ why. why ≡ create_refusal path.now (map.len self.now.files) (map.get self.now.files path.now)) }
-        ensures accepted { create_refusal path.now (map.len self.now.files) (map.get self.now.files path.now) ≡ None → result ≡ Ok None }
+        ensures value { IfOk result (λ why. why ≡ if_exists path.now (map.get self.now.files path.now) (too_many (map.len self.now.files))) }
+        ensures accepted { if_exists path.now (map.get self.now.files path.now) (too_many (map.len self.now.files)) ≡ None → result ≡ Ok None }
     {
         match self.table.get(path) {
             Some(_) => Ok(Some(FileRefusal::Exists(path.copy()?))),
@@ -116,34 +130,85 @@ impl Files {
         }
     }
 
-    fn test_delete(&self, user: &Name, path: &Path) -> Result<Option<FileRefusal>, Memory>
-        ensures value { IfOk result (λ why. why ≡ delete_refusal user.now path.now (map.get self.now.files path.now)) }
-        ensures accepted { delete_refusal user.now path.now (map.get self.now.files path.now) ≡ None → result ≡ Ok None }
+    fn test_write(
+        &self,
+        user: &Name,
+        path: &Path,
+        forbidden: Option<(LinkNo, Why)>,
+    ) -> Result<Option<FileRefusal>, Memory>
+        ensures value { IfOk result (λ why. why ≡ needs_file path.now (map.get self.now.files path.now) (λ file. if_forbidden path.now forbidden (not_owner user.now path.now file (read_only path.now file)))) }
+        ensures accepted { needs_file path.now (map.get self.now.files path.now) (λ file. if_forbidden path.now forbidden (not_owner user.now path.now file (read_only path.now file))) ≡ None → result ≡ Ok None }
     {
         match self.table.get(path) {
-            Some(file) => {
-                if file.owner.name.bytes() == user.bytes() {
-                    Ok(None)
-                } else {
-                    let owner = file.owner.name.copy()?;
-                    Ok(Some(FileRefusal::NotOwner(path.copy()?, owner)))
-                }
-            }
+            Some(file) => match test_file(user, path, file, forbidden)? {
+                Some(why) => Ok(Some(why)),
+                None => test_flag(path, file),
+            },
             None => Ok(Some(FileRefusal::NoFile(path.copy()?))),
         }
     }
 
-    fn test_read(&self, path: &Path) -> Result<Option<FileRefusal>, Memory>
-        ensures value { IfOk result (λ why. why ≡ read_refusal path.now (map.get self.now.files path.now)) }
-        ensures accepted { read_refusal path.now (map.get self.now.files path.now) ≡ None → result ≡ Ok None }
+    // Of a command that asks for no more than an owner.
+    fn test_owner(
+        &self,
+        user: &Name,
+        path: &Path,
+        forbidden: Option<(LinkNo, Why)>,
+    ) -> Result<Option<FileRefusal>, Memory>
+        ensures value { IfOk result (λ why. why ≡ needs_file path.now (map.get self.now.files path.now) (λ file. if_forbidden path.now forbidden (not_owner user.now path.now file None))) }
+        ensures accepted { needs_file path.now (map.get self.now.files path.now) (λ file. if_forbidden path.now forbidden (not_owner user.now path.now file None)) ≡ None → result ≡ Ok None }
     {
         match self.table.get(path) {
-            Some(_) => Ok(None),
+            Some(file) => test_file(user, path, file, forbidden),
             None => Ok(Some(FileRefusal::NoFile(path.copy()?))),
         }
     }
 
-    /// Does a create or a delete that no refusal applies to: one record, and then the files in memory.
+    fn test_rename(
+        &self,
+        user: &Name,
+        path: &Path,
+        to: &Path,
+        forbidden: Option<(LinkNo, Why)>,
+    ) -> Result<Option<FileRefusal>, Memory>
+        ensures value { IfOk result (λ why. why ≡ needs_file path.now (map.get self.now.files path.now) (λ file. if_forbidden path.now forbidden (not_owner user.now path.now file (if_exists to.now (map.get self.now.files to.now) None)))) }
+        ensures accepted { needs_file path.now (map.get self.now.files path.now) (λ file. if_forbidden path.now forbidden (not_owner user.now path.now file (if_exists to.now (map.get self.now.files to.now) None))) ≡ None → result ≡ Ok None }
+    {
+        match self.table.get(path) {
+            Some(file) => match test_file(user, path, file, forbidden)? {
+                Some(why) => Ok(Some(why)),
+                None => self.test_free(to),
+            },
+            None => Ok(Some(FileRefusal::NoFile(path.copy()?))),
+        }
+    }
+
+    // Of a new path.
+    fn test_free(&self, to: &Path) -> Result<Option<FileRefusal>, Memory>
+        ensures value { IfOk result (λ why. why ≡ if_exists to.now (map.get self.now.files to.now) None) }
+        ensures accepted { if_exists to.now (map.get self.now.files to.now) None ≡ None → result ≡ Ok None }
+    {
+        match self.table.get(to) {
+            Some(_) => Ok(Some(FileRefusal::Exists(to.copy()?))),
+            None => Ok(None),
+        }
+    }
+
+    fn test_read(
+        &self,
+        path: &Path,
+        forbidden: Option<(LinkNo, Why)>,
+    ) -> Result<Option<FileRefusal>, Memory>
+        ensures value { IfOk result (λ why. why ≡ needs_file path.now (map.get self.now.files path.now) (λ file. if_forbidden path.now forbidden None)) }
+        ensures accepted { needs_file path.now (map.get self.now.files path.now) (λ file. if_forbidden path.now forbidden None) ≡ None → result ≡ Ok None }
+    {
+        match self.table.get(path) {
+            Some(_) => test_link(path, forbidden),
+            None => Ok(Some(FileRefusal::NoFile(path.copy()?))),
+        }
+    }
+
+    /// Does a command that writes, which no refusal applies to: one record, and then the files in memory.
     /// `Memory` is answered before any write.
     pub fn apply<B: Bench>(&mut self, bench: &mut B, cmd: FileCmd) -> Result<(), StepFault>
         requires ready { IsReady self.old (B.outside bench.old) }
@@ -164,58 +229,187 @@ impl Files {
         ensures memory { result ≡ Err StepFault.Memory → bench.new ≡ bench.old }
 
         // It is full only where the record would pass the limit. Then nothing is written.
-        ensures full { (full : Full) → result ≡ Err (StepFault.Full full) → (full ≡ full_with self.old (record_of cmd)) × IsFullWith self.old (record_of cmd) }
-        ensures unwritten { IsFullWith self.old (record_of cmd) → (bench.new ≡ bench.old) × IsErr result }
+        ensures full { (full : Full) → result ≡ Err (StepFault.Full full) → (full ≡ full_with self.old (record_of self.old.files cmd)) × IsFullWith self.old (record_of self.old.files cmd) }
+        ensures unwritten { IsFullWith self.old (record_of self.old.files cmd) → (bench.new ≡ bench.old) × IsErr result }
         ensures device { result ≡ Err StepFault.Device → Rose (B.outside bench.old) (B.outside bench.new) }
+    {
+        let made = self.changes(cmd)?;
+        self.write(bench, made)
+    }
+
+    // The changes of a command.
+    fn changes(&self, cmd: FileCmd) -> Result<List<FileChange>, Memory>
+        ensures { IfOk result (λ made. made ≡ command_changes self.now.files cmd.user cmd.what) }
     {
         let FileCmd { user, what } = cmd;
         match what {
-            FileWhat::Create(path, bytes) => {
-                let owner = Owner {
-                    name: user,
-                    writable: true,
-                };
-                let file = File {
-                    owner,
-                    bytes,
-                    before: None,
-                };
-                self.write(bench, FileChange::Put(FileRow { path, file }))
-            }
-            FileWhat::Delete(path) => self.write(bench, FileChange::Removed(path)),
-            _ => unreachable!(),
+            FileWhat::Create(path, bytes) => one(self.alloc, created(user, path, bytes)),
+            FileWhat::Write(path, bytes) => self.written(path, bytes),
+            FileWhat::Delete(path) => one(self.alloc, FileChange::Removed(path)),
+            FileWhat::Rename(path, to) => self.renamed(path, to),
+            FileWhat::Chmod(path, on) => self.owned(path, on),
+            FileWhat::Read(_, _) | FileWhat::List => Ok(List::empty(self.alloc)),
         }
     }
 
-    fn write<B: Bench>(&mut self, bench: &mut B, made: FileChange) -> Result<(), StepFault>
+    fn written(&self, path: Path, bytes: Text) -> Result<List<FileChange>, Memory>
+        ensures { IfOk result (λ made. made ≡ command_changes self.now.files [] (FileWhat.Write path bytes)) }
+    {
+        match self.table.get(&path) {
+            Some(file) => {
+                let (owner, before) = owners(file)?;
+                let file = File {
+                    owner,
+                    bytes,
+                    before,
+                };
+                one(self.alloc, FileChange::Put(FileRow { path, file }))
+            }
+            None => Ok(List::empty(self.alloc)),
+        }
+    }
+
+    // The file goes whole to its new path.
+    fn renamed(&self, path: Path, to: Path) -> Result<List<FileChange>, Memory>
+        ensures { IfOk result (λ made. made ≡ command_changes self.now.files [] (FileWhat.Rename path to)) }
+    {
+        match self.table.get(&path) {
+            Some(file) => {
+                let row = FileRow {
+                    file: file.copy()?,
+                    path: to,
+                };
+                two(self.alloc, FileChange::Removed(path), FileChange::Put(row))
+            }
+            None => Ok(List::empty(self.alloc)),
+        }
+    }
+
+    fn owned(&self, path: Path, on: bool) -> Result<List<FileChange>, Memory>
+        ensures { IfOk result (λ made. made ≡ command_changes self.now.files [] (FileWhat.Chmod path on)) }
+    {
+        match self.table.get(&path) {
+            Some(file) => {
+                let (Owner { name, .. }, before) = owners(file)?;
+                let owner = Owner { name, writable: on };
+                one(self.alloc, FileChange::Kept(path, owner, before))
+            }
+            None => Ok(List::empty(self.alloc)),
+        }
+    }
+
+    // Writes a user's changes, and then makes them in memory.
+    fn write<B: Bench>(&mut self, bench: &mut B, made: List<FileChange>) -> Result<(), StepFault>
         requires ready { IsReady self.old (B.outside bench.old) }
-        requires taken { IsSome (with_changes self.old.files (made ∷ [])) }
-        ensures files { OnOk result (with_changes self.old.files (made ∷ []) ≡ Some self.new.files) }
-        ensures kept { OnOk result ((bodies : List (List ℕ)) → Holds self.old bodies (B.outside bench.old) → Holds self.new (bodies ++ user_record (made ∷ []) ∷ []) (B.outside bench.new)) }
+        requires taken { IsSome (with_changes self.old.files made) }
+        ensures files { OnOk result (with_changes self.old.files made ≡ Some self.new.files) }
+        ensures kept { OnOk result ((bodies : List (List ℕ)) → Holds self.old bodies (B.outside bench.old) → Holds self.new (bodies ++ user_record made ∷ []) (B.outside bench.new)) }
         ensures ready { OnOk result (IsReady self.new (B.outside bench.new)) }
-        ensures images { Touches areas.Files (StandsWithout self.old (made ∷ []) (B.outside bench.old)) (B.outside bench.old) (B.outside bench.new) }
+        ensures images { Touches areas.Files (StandsWithout self.old made (B.outside bench.old)) (B.outside bench.old) (B.outside bench.new) }
         ensures limit { self.new.limit ≡ self.old.limit }
         ensures err { OnErr result (self.new ≡ self.old) }
         ensures memory { result ≡ Err StepFault.Memory → bench.new ≡ bench.old }
-        ensures full { (full : Full) → result ≡ Err (StepFault.Full full) → (full ≡ full_with self.old (user_record (made ∷ []))) × IsFullWith self.old (user_record (made ∷ [])) }
-        ensures unwritten { IsFullWith self.old (user_record (made ∷ [])) → (bench.new ≡ bench.old) × IsErr result }
+        ensures full { (full : Full) → result ≡ Err (StepFault.Full full) → (full ≡ full_with self.old (user_record made)) × IsFullWith self.old (user_record made) }
+        ensures unwritten { IsFullWith self.old (user_record made) → (bench.new ≡ bench.old) × IsErr result }
         ensures device { result ≡ Err StepFault.Device → Rose (B.outside bench.old) (B.outside bench.new) }
     {
-        let batch = user_batch(self.alloc, made)?;
+        let count = made.len();
+        let batch = FilesRecord::Batch(0, made);
         let mut body = List::empty(self.alloc);
         put_files_record(&mut body, &batch)?;
-        self.table.make_room()?;
+        self.table.make_room(count)?;
         self.journal.append(bench, body.as_slice())?;
         make_batch(&mut self.table, batch);
         Ok(())
     }
 }
 
-// The record of a user's change.
-fn user_batch(alloc: Global, made: FileChange) -> Result<FilesRecord, Memory>
-    ensures { IfOk result (λ batch. batch ≡ Batch 0 (made ∷ [])) }
+// Why a link forbids a command, if one does.
+fn test_link(path: &Path, forbidden: Option<(LinkNo, Why)>) -> Result<Option<FileRefusal>, Memory>
+    ensures value { IfOk result (λ why. why ≡ if_forbidden path.now forbidden None) }
+    ensures accepted { if_forbidden path.now forbidden None ≡ None → result ≡ Ok None }
+{
+    match forbidden {
+        Some((link, why)) => Ok(Some(FileRefusal::Forbidden(path.copy()?, link, why))),
+        None => Ok(None),
+    }
+}
+
+// Why a user may not change a file, if a link forbids it or another user owns it.
+fn test_file(
+    user: &Name,
+    path: &Path,
+    file: &File,
+    forbidden: Option<(LinkNo, Why)>,
+) -> Result<Option<FileRefusal>, Memory>
+    ensures value { IfOk result (λ why. why ≡ if_forbidden path.now forbidden (not_owner user.now path.now file.now None)) }
+    ensures accepted { if_forbidden path.now forbidden (not_owner user.now path.now file.now None) ≡ None → result ≡ Ok None }
+{
+    match forbidden {
+        Some((link, why)) => Ok(Some(FileRefusal::Forbidden(path.copy()?, link, why))),
+        None => test_user(user, path, file),
+    }
+}
+
+fn test_user(user: &Name, path: &Path, file: &File) -> Result<Option<FileRefusal>, Memory>
+    ensures value { IfOk result (λ why. why ≡ not_owner user.now path.now file.now None) }
+    ensures accepted { not_owner user.now path.now file.now None ≡ None → result ≡ Ok None }
+{
+    if file.owner.name.bytes() == user.bytes() {
+        Ok(None)
+    } else {
+        let owner = file.owner.name.copy()?;
+        Ok(Some(FileRefusal::NotOwner(path.copy()?, owner)))
+    }
+}
+
+fn test_flag(path: &Path, file: &File) -> Result<Option<FileRefusal>, Memory>
+    ensures value { IfOk result (λ why. why ≡ read_only path.now file.now) }
+    ensures accepted { read_only path.now file.now ≡ None → result ≡ Ok None }
+{
+    if file.owner.writable {
+        Ok(None)
+    } else {
+        Ok(Some(FileRefusal::ReadOnly(path.copy()?)))
+    }
+}
+
+// A user's new file at a path.
+fn created(user: Name, path: Path, bytes: Text) -> FileChange
+    ensures { result ≡ put path (new_file user bytes) }
+{
+    let owner = Owner {
+        name: user,
+        writable: true,
+    };
+    let file = File {
+        owner,
+        bytes,
+        before: None,
+    };
+    FileChange::Put(FileRow { path, file })
+}
+
+// Copies of a file's owner and of its saved owner.
+fn owners(file: &File) -> Result<(Owner, Option<Owner>), Memory>
+    ensures { IfOk result (λ o. o ≡ (file.now.owner, file.now.before)) }
+{
+    let owner = file.owner.copy()?;
+    Ok((owner, file.before.copy()?))
+}
+
+fn one(alloc: Global, change: FileChange) -> Result<List<FileChange>, Memory>
+    ensures { IfOk result (λ made. made ≡ change ∷ []) }
 {
     let mut changes = List::empty(alloc);
-    changes.push(made)?;
-    Ok(FilesRecord::Batch(0, changes))
+    changes.push(change)?;
+    Ok(changes)
+}
+
+fn two(alloc: Global, first: FileChange, second: FileChange) -> Result<List<FileChange>, Memory>
+    ensures { IfOk result (λ made. made ≡ first ∷ second ∷ []) }
+{
+    let mut changes = one(alloc, first)?;
+    changes.push(second)?;
+    Ok(changes)
 }

@@ -1,15 +1,18 @@
 // The files in memory, by their paths.
-ghost use Rattle.std.specs.Prelude.{◌≡◌, ◌<◌, ◌≤◌, ℕ, List, Some, IsOk, OnOk, OnErr, is_some, false, nat_eq};
-ghost use Rattle.std.specs.Cmp.Lexicographic.{pointwise};
+ghost use Rattle.std.specs.Prelude.{◌≡◌, ◌<◌, ◌≤◌, ◌+◌, ℕ, List, Some, IsOk, IfOk, OnOk, OnErr, is_some, false, nat_eq};
+ghost use Rattle.std.specs.Cmp.Lexicographic.{pointwise, slice_cmp};
 ghost use Rattle.std.specs.FinMap as map;
 ghost use Rattle.std.specs.Option.{option_copied, option_map};
+ghost use Rattle.std.specs.Ordering.{nat_cmp};
 ghost use Rattle.indexmap.specs.IndexMap.{get, spare as room};
 ghost use Rattle.dl_base.specs.declared.file.File.{File};
+ghost use Rattle.meaning_files.specs.Commands.{rows_of};
 ghost use Rattle.meaning_files.specs.Files.{with_owner};
 
-use dl_base::{File, Memory, Owner, Path};
+use dl_base::{Copied, File, FileRow, List, Memory, Owner, Path};
 use indexmap::IndexMap;
 use std::alloc::Global;
+use std::collections::BTreeMap;
 use std::marker::Model;
 
 /// Files by their paths. Contracts see the files in the order of the paths' bytes, and for how many more there is room.
@@ -47,6 +50,17 @@ impl FileTable {
         self.entries.get(path)
     }
 
+    /// All files, in the order of the paths' bytes. It costs n log n.
+    pub fn list(&self, alloc: Global) -> Result<List<FileRow>, Memory>
+        ensures { IfOk result (λ rows. rows ≡ rows_of self.now.files) }
+    {
+        let mut rows = List::empty(alloc);
+        for (path, file) in sorted(alloc, &self.entries)? {
+            rows.push(FileRow { path, file })?;
+        }
+        Ok(rows)
+    }
+
     /// How many files there are.
     pub fn len(&self) -> usize
         ensures { result ≡ map.len self.now.files }
@@ -54,12 +68,12 @@ impl FileTable {
         self.entries.len()
     }
 
-    /// Makes room for one more file.
-    pub fn make_room(&mut self) -> Result<(), Memory>
+    /// Makes room for so many more files.
+    pub fn make_room(&mut self, count: usize) -> Result<(), Memory>
         ensures files { self.new.files ≡ self.old.files }
-        ensures room { OnOk result (1 ≤ self.new.spare) }
+        ensures room { OnOk result (count ≤ self.new.spare) }
     {
-        self.entries.reserve(1)?;
+        self.entries.reserve(count)?;
         Ok(())
     }
 
@@ -68,6 +82,7 @@ impl FileTable {
         ensures ok { OnOk result (self.new.files ≡ map.insert self.old.files path file) }
         ensures err { OnErr result (self.new.files ≡ self.old.files) }
         ensures room { 0 < self.old.spare → IsOk result }
+        ensures spare { self.old.spare ≤ self.new.spare + 1 }
     {
         self.entries.insert(path, file)?;
         Ok(())
@@ -77,6 +92,7 @@ impl FileTable {
     pub fn remove(&mut self, path: &Path) -> bool
         ensures found { result ≡ is_some (map.get self.old.files path.now) }
         ensures removed { self.new.files ≡ map.remove self.old.files path.now }
+        ensures room { self.old.spare ≤ self.new.spare }
     {
         self.entries.swap_remove(path).is_some()
     }
@@ -89,6 +105,18 @@ impl FileTable {
     {
         renew(&mut self.entries, path, owner, before)
     }
+}
+
+// Copies of all files, in the order of the paths' bytes.
+fn sorted(alloc: Global, entries: &IndexMap<Path, File>) -> Result<BTreeMap<Path, File>, Memory>
+    ensures { IfOk result (λ made. made.entries ≡ map.entries (map.from_entries {R = slice_cmp nat_cmp} entries.now.entries)) }
+{
+    let mut made = BTreeMap::new(alloc);
+    for (path, file) in entries.iter() {
+        let path = path.copy()?;
+        made.insert(path, file.copy()?)?;
+    }
+    Ok(made)
 }
 
 // The owners of the file at a path, if there is one.

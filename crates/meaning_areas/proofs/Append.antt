@@ -19,6 +19,7 @@ use Rattle.meaning_areas.specs.Branches.{Branch, branch, is_phase, moves_on, don
 use Rattle.meaning_areas.specs.Commits.{Commit, commit_of, has_number, with_ended, ends_on}
 use Rattle.meaning_areas.specs.Lists.{Folds, in_rows, in_links, with_links, with_rows}
 use Rattle.meaning_areas.specs.Stands.{is_open, is_past, open_branch, open_in, txs_of, kept_of, AreDrawn, Stored, stored_with, settled_of, stored_of, IsBranch, Compares, IsStand}
+use Rattle.meaning_areas.proofs.OwnNumbers.{committed-apart}
 use Rattle.meaning_areas.proofs.Tables.{get-here, get-there, some_same, not_none, some_none, commit-in, in-commit, has-push}
 use Rattle.meaning_areas.specs.Moving.{with_kept, with_phase, Stays}
 
@@ -39,6 +40,7 @@ pub compares-kept : (f : Folds) (files : Files) (copies : Copies) → Compares f
     → ((tx : ℕ) (m : Moved) → is_some (commit_of tx f.rows.commits) ≡ true → open_in f.links tx ≡ Some m → IsReady m (kept_of (with_kept f files copies))) → Compares (with_kept f files copies)
 compares-kept f files copies c same ready = record {
   distinct = c.distinct;
+  moved = c.moved;
   branches = c.branches;
   decided = c.decided;
   ended = c.ended;
@@ -69,6 +71,7 @@ module _ (f : Folds) (c : Compares f) (tx : ℕ) (m : Moved) (from to : BranchPh
       → settled_of (with_phase f tx m to held) ≡ settled_of f → Compares (with_phase f tx m to held)
   compares-moved past dropped not_done fewer same = record {
     distinct = c.distinct;
+    moved = c.moved;
     branches = λ q d is. ⊎_elim
         (λ (e : q ≡ tx). subst (λ (t : ℕ). IsBranch d.branch d.gives d.takes (maps.get (with_phase f tx m to held).links.table t)) (sym e)
         (subst (λ (o : Option Branch). IsBranch d.branch d.gives d.takes o) (sym (get-here f.links.table tx (branch m to)))
@@ -145,11 +148,11 @@ module _ (f : Folds) (s : Stored) (stand : IsStand f s) (tx : ℕ) (m : Moved) w
       let open_tx : open_in f.links tx ≡ Some m = ap open_branch at ∙ ap (λ b. cond b (Some m) None) still in
       let ready = stand.compares.ready tx m committed open_tx in
       let same : settled_of (with_kept f later_files later_copies) ≡ settled_of f =
-      settled-part (open_in f.links) (txs_of f.rows.commits) copies files false tx m (kept_of f) (kept_of (with_kept f later_files later_copies)) stand.compares.apart open_tx (commit-in tx f.rows.commits committed) ready part in
+      settled-part (open_in f.links) (txs_of f.rows.commits) copies files false tx m (kept_of f) (kept_of (with_kept f later_files later_copies)) (committed-apart f s stand) open_tx (commit-in tx f.rows.commits committed) ready part in
       stands (with_kept f later_files later_copies)
       (compares-kept f later_files later_copies stand.compares same (λ t a is x. ⊎_elim
       (λ (e : t ≡ tx). (let P : Moved → Type 0 = λ y. IsReady y (kept_of (with_kept f later_files later_copies)) in subst P (some_same m a (sym open_tx ∙ ap (open_in f.links) (sym e) ∙ x)) (ready-part copies files false m (kept_of f) (kept_of (with_kept f later_files later_copies)) part ready)))
-      (λ (other : t ≢ tx). ready-other copies files false m (kept_of f) (kept_of (with_kept f later_files later_copies)) part a (stand.compares.apart t tx other a m x open_tx) (stand.compares.ready t a is x))
+      (λ (other : t ≢ tx). ready-other copies files false m (kept_of f) (kept_of (with_kept f later_files later_copies)) part a (committed-apart f s stand t tx (commit-in t f.rows.commits is) (commit-in tx f.rows.commits committed) other a m x open_tx) (stand.compares.ready t a is x))
       (cases_eq t tx)))
       refl refl refl refl same
 
@@ -174,8 +177,8 @@ module _ (f : Folds) (s : Stored) (stand : IsStand f s) (tx : ℕ) (m : Moved) w
       let none : open_in (with_phase f tx m Done held).links tx ≡ None = open-here f stand.compares tx m Committed Done at held in
       let there : (t : ℕ) → t ≢ tx → open_in f.links t ≡ open_in (with_phase f tx m Done held).links t = open-there f stand.compares tx m Committed Done at held in
       let same : settled_of (with_phase f tx m Done held) ≡ settled_of f =
-      sym (settled-less (open_in f.links) (open_in (with_phase f tx m Done held).links) (txs_of f.rows.commits) tx m k stand.compares.apart open_tx there none done)
-      ∙ settled-part (open_in f.links) (txs_of f.rows.commits) (λ n. true) true true tx m (kept_of f) k stand.compares.apart open_tx (commit-in tx f.rows.commits committed) ready part in
+      sym (settled-less (open_in f.links) (open_in (with_phase f tx m Done held).links) (txs_of f.rows.commits) tx m k (λ t a among other x. committed-apart f s stand t tx among (commit-in tx f.rows.commits committed) other a m x open_tx) open_tx there none done)
+      ∙ settled-part (open_in f.links) (txs_of f.rows.commits) (λ n. true) true true tx m (kept_of f) k (committed-apart f s stand) open_tx (commit-in tx f.rows.commits committed) ready part in
       record {
         accepted = ap (λ (o : Option Branch). with_links f (done_on f.links tx o)) at;
         stand = stands (with_phase f tx m Done held)
@@ -212,6 +215,7 @@ module _ (f : Folds) (s : Stored) (stand : IsStand f s) (tx : ℕ) (m : Moved) w
     stand = record {
       compares = record {
         distinct = stand.compares.distinct;
+        moved = stand.compares.moved;
         branches = stand.compares.branches;
         decided = stand.compares.decided;
         ended = λ q is. ⊎_elim (λ was. stand.compares.ended q was) (λ (e : q ≡ tx). (m, ap (maps.get f.links.table) e ∙ at)) (has-push q tx f.rows.ended is);

@@ -88,7 +88,7 @@ module _ (f : Folds) (c : Core) (joint : Joint f c) (l : LinkRow) (file : File) 
   file-there = settled-files (decided_in c) (txs_of c.commits) (core_kept c) l.path (λ t a e. (off t a e).0) ∙ there
 
   copy-none : maps.get before.copies (link_key l.link) ≡ None
-  copy-none = settled-copies (decided_in c) (txs_of c.commits) (core_kept c) (link_key l.link) (λ t a e. (off t a e).1) ∙ none
+  copy-none = settled-copies (decided_in c) (txs_of c.commits) (core_kept c) (link_key l.link) (λ t a among e. (off t a e).1) ∙ none
 
   passes : IsPart (λ n. is_at n (link_key l.link)) false false (record { gives = l ∷ []; takes = []; fill = false }) before behind
   passes = settled-passes (decided_in c) (txs_of c.commits) (λ n. is_at n (link_key l.link)) (record { gives = l ∷ []; takes = []; fill = false }) (core_kept c) (core_kept (core_kept_as c c.files copied)) apart part

@@ -14,8 +14,7 @@ use Rattle.dl_base.specs.declared.file.File.{File}
 use Rattle.dl_base.specs.declared.file.FileChange.{FileChange}
 use Rattle.dl_base.specs.declared.file.FileChange.TheVariants as changes
 use Rattle.dl_base.specs.declared.file.Owner.{Owner}
-use Rattle.meaning_areas.specs.FilesArea.{if_there, with_change, with_changes}
-use Rattle.meaning_files.specs.Files.{Files, with_owner}
+use Rattle.meaning_files.specs.Files.{Files, with_owner, if_there, with_change, with_changes}
 use Rattle.meaning_settling.specs.Apart.{has_path}
 use Rattle.meaning_settling.specs.Keyed.{Keyed, is_at, put_at, over}
 use Rattle.meaning_settling.specs.Settling.{Moved, Kept, paths_of, file_after, copies_after, settle_one}

@@ -6,23 +6,30 @@ use Rattle.dl_base.specs.declared.value.LinkRow.{LinkRow}
 use Rattle.dl_codec.specs.declared.links.BranchPhase.{BranchPhase}
 use Rattle.dl_codec.specs.declared.links.BranchPhase.TheVariants.{Prepared, Done}
 use Rattle.meaning_files.specs.Files.{Files}
-use Rattle.meaning_tables.specs.Links.{links}
-use Rattle.meaning_settling.specs.Apart.{Apart, IsReady}
-use Rattle.meaning_settling.specs.Settled.{settle_open, settled, IsIn, AreDistinct, AreApart}
+use Rattle.meaning_tables.specs.Links.{links, gives, takes}
+use Rattle.meaning_tables.specs.Tables.{Tables}
+use Rattle.meaning_settling.specs.Apart.{ShareNoPath, IsReady}
+use Rattle.meaning_settling.specs.Settled.{settle_open, settled, IsIn, AreDistinct}
 use Rattle.meaning_settling.specs.Settling.{Copies, Moved, Kept, on, held_by, held_after, settle_one}
 use Rattle.meaning_settling.proofs.PartLaws.{get-held, settled-whole, ready-other}
 use Rattle.meaning_settling.proofs.SettledLaws.{settled-tests, settled-push, settled-front}
 use Rattle.meaning_areas.specs.Branches.{Branch, branch}
-use Rattle.meaning_areas.specs.Commits.{Commit, commit_of, tables_after}
+use Rattle.meaning_areas.specs.Commits.{Commit, HaveMoved, commit_of, tables_after}
 use Rattle.meaning_areas.specs.Core.{Stage, prepared, decided, Work, Core, is_decided, decided_work, decided_in, core_kept, core_stored, with_work}
 use Rattle.meaning_areas.specs.Lists.{Folds}
 use Rattle.meaning_areas.specs.Joint.{branch_for, IsCommitOf, AgreesAt, Agrees, Joint}
 use Rattle.meaning_areas.specs.Copies.{Backup}
 use Rattle.meaning_areas.specs.Stands.{is_open, txs_of, kept_of, AreDrawn, IsWhole}
+use Rattle.meaning_areas.proofs.OwnNumbers.{decided-apart}
 use Rattle.meaning_areas.proofs.Tables.{get-here, get-there, some_same, not_none, commit-in, in-commit, commit_of-here, commit_of-there, txs-push, tables-push, distinct-push, commit-push, has-push, some_none}
 use Rattle.meaning_areas.proofs.Standing.{same-parts}
 use Rattle.meaning_areas.proofs.Steps.{work-here, work-there, works-all, same-held, apart-with, is-drawn, agrees-of}
 use Rattle.meaning_areas.specs.Moving.{with_kept, with_decision, with_finish, core_decided, core_finished, core_kept_as}
+
+-- one more commit has what it moved
+pub moved-push : (before : Tables) (d : Commit) (cs : List Commit) → HaveMoved before cs → d.gives ≡ gives (tables_after before cs) d.tables → d.takes ≡ takes (tables_after before cs) d.tables → HaveMoved before (cs ++ d ∷ [])
+moved-push before d [] moved given taken = (given, taken, tt)
+moved-push before d (c ∷ cs) moved given taken = (moved.0, moved.1, moved-push c.tables d cs moved.2 given taken)
 
 -- THE LISTS AFTER A COMMIT, and the state
 module _ (f : Folds) (c : Core) (joint : Joint f c) (d : Commit) (w : Work) (is : c.works d.tx ≡ Some w) (was : w.stage ≡ prepared)
@@ -49,9 +56,10 @@ module _ (f : Folds) (c : Core) (joint : Joint f c) (d : Commit) (w : Work) (is 
       ∙ ap (λ (o : Option Moved). settle_open o (settled (decided_in (core_decided c d w)) (txs_of f.rows.commits) k)) at-tx
       ∙ ap (settle_open (cond w.branch (Some w.moved) None)) (settled-tests (decided_in (core_decided c d w)) (decided_in c) (txs_of f.rows.commits) k (λ t in_list. tests t (λ (e : t ≡ d.tx). not-yet (subst (λ (x : ℕ). IsIn x (txs_of f.rows.commits)) e in_list))))
 
-  pub joint-decided : ((p : List ℕ) → on (links d.tables) p ≡ held_after w.moved p (on (links (tables_after [] f.rows.commits)) p)) → IsReady w.moved (kept_of f) → AreDrawn f.rows.opening (links d.tables) → IsWhole (core_stored (core_decided c d w))
+  pub joint-decided : d.gives ≡ gives (tables_after [] c.commits) d.tables → d.takes ≡ takes (tables_after [] c.commits) d.tables
+      → ((p : List ℕ) → on (links d.tables) p ≡ held_after w.moved p (on (links (tables_after [] f.rows.commits)) p)) → IsReady w.moved (kept_of f) → AreDrawn f.rows.opening (links d.tables) → IsWhole (core_stored (core_decided c d w))
       → Joint (with_decision f d) (core_decided c d w)
-  joint-decided moved ready drawn whole = record {
+  joint-decided away added moved ready drawn whole = record {
     commits = ap (λ (cs : List Commit). cs ++ d ∷ []) joint.commits;
     rows_opening = joint.rows_opening;
     links_opening = joint.links_opening;
@@ -63,8 +71,9 @@ module _ (f : Folds) (c : Core) (joint : Joint f c) (d : Commit) (w : Work) (is 
         (λ q other. (let P : Option Commit → Type 0 = λ o. Agrees (c.works q) o (maps.get f.links.table q) in subst P (sym (commit_of-there d q f.rows.commits at-vote.0 other)) (joint.agrees q)));
     ended = joint.ended;
     distinct = subst AreDistinct (sym (txs-push d f.rows.commits)) (distinct-push (txs_of f.rows.commits) d.tx joint.distinct not-yet);
+    moved = moved-push [] d f.rows.commits joint.moved (away ∙ ap (λ (cs : List Commit). gives (tables_after [] cs) d.tables) (sym joint.commits)) (added ∙ ap (λ (cs : List Commit). takes (tables_after [] cs) d.tables) (sym joint.commits));
     apart = apart-with f c joint d.tx (Some (record { stage = decided; branch = w.branch; moved = w.moved })) (λ u other y v e z.
-        (let R : Work → Type 0 = λ a. Apart a.moved v.moved in subst R (some_same (record { stage = decided; branch = w.branch; moved = w.moved }) y e) (joint.apart d.tx u (λ (same : d.tx ≡ u). other (sym same)) w v is z)));
+        (let R : Work → Type 0 = λ a. ShareNoPath a.moved v.moved in subst R (some_same (record { stage = decided; branch = w.branch; moved = w.moved }) y e) (joint.apart d.tx u (λ (same : d.tx ≡ u). other (sym same)) w v is z)));
     plain = λ t y at. ⊎_elim
         (λ (e : t ≡ d.tx). (let R : Work → Type 0 = λ a. a.branch ≡ false → (a.moved.gives ≡ []) × (a.moved.takes ≡ []) in
         subst R (some_same (record { stage = decided; branch = w.branch; moved = w.moved }) y (sym (work-here c.works d.tx (Some (record { stage = decided; branch = w.branch; moved = w.moved }))) ∙ ap (with_work c.works d.tx (Some (record { stage = decided; branch = w.branch; moved = w.moved }))) (sym e) ∙ at)) (joint.plain d.tx w is)))
@@ -113,29 +122,12 @@ module _ (f : Folds) (c : Core) (joint : Joint f c) (tx : ℕ) (w : Work) (is : 
   same-there : (t : ℕ) → t ≢ tx → decided_in c t ≡ decided_in (core_finished c tx w.moved) t
   same-there t other = ap decided_work (sym (work-there c.works tx None t other))
 
-  all-apart : AreApart (decided_in c)
-  all-apart t u other a b x y =
-      let first = taken_of t a x in
-      let second = taken_of u b y in
-      subst (λ (z : Moved). Apart z b) first.2 (subst (λ (z : Moved). Apart first.0.moved z) second.2 (joint.apart t u other first.0 second.0 first.1 second.1))
-    where
-      chosen : (v : Work) (b : Bool) (m : Moved) → cond b (Some v.moved) None ≡ Some m → v.moved ≡ m
-      chosen v true m e = some_same v.moved m e
-      chosen v false m e = absurd cc
-
-      of : (o : Option Work) (m : Moved) → decided_work o ≡ Some m → (v : Work) × (o ≡ Some v) × (v.moved ≡ m)
-      of None m e = absurd cc
-      of (Some v) m e = (v, refl, chosen v (is_decided v.stage && v.branch) m e)
-
-      taken_of : (t : ℕ) (m : Moved) → decided_in c t ≡ Some m → (v : Work) × (c.works t ≡ Some v) × (v.moved ≡ m)
-      taken_of t m e = of (c.works t) m e
-
   in-list : IsIn tx (txs_of f.rows.commits)
   in-list = commit-in tx f.rows.commits (ap is_some at-end.0.at)
 
   -- settling it first changes nothing of what all settling leaves
   front : (k : Kept) → settled (decided_in (core_finished c tx w.moved)) (txs_of f.rows.commits) (settle_one w.moved k) ≡ settled (decided_in c) (txs_of f.rows.commits) k
-  front k = sym (settled-front (decided_in c) (decided_in (core_finished c tx w.moved)) (txs_of f.rows.commits) tx w.moved k all-apart open-tx same-there none-tx in-list joint.distinct)
+  front k = sym (settled-front (decided_in c) (decided_in (core_finished c tx w.moved)) (txs_of f.rows.commits) tx w.moved k (λ t u in_t in_u. decided-apart f c joint t u) open-tx same-there none-tx in-list joint.distinct)
 
   pub stored-finished : core_stored (core_finished c tx w.moved) ≡ core_stored c
   stored-finished =
@@ -164,6 +156,7 @@ module _ (f : Folds) (c : Core) (joint : Joint f c) (tx : ℕ) (w : Work) (is : 
             (λ (other : q ≢ tx). ⊎_elim (λ before. (let old = joint.ended q before in (old.0, get-there f.links.table tx (branch w.moved Done) q other ∙ old.1))) (λ (here : q ≡ tx). absurd (other here)) (has-push q tx f.rows.ended e))
             (cases_eq q tx);
         distinct = joint.distinct;
+        moved = joint.moved;
         apart = apart-with f c joint tx None (λ u other y v e z. absurd (none_some y e));
         plain = λ t y at. ⊎_elim
             (λ (e : t ≡ tx). absurd (none_some y (sym (work-here c.works tx None) ∙ ap (with_work c.works tx None) (sym e) ∙ at)))
@@ -173,7 +166,7 @@ module _ (f : Folds) (c : Core) (joint : Joint f c) (tx : ℕ) (w : Work) (is : 
             (λ (e : t ≡ tx). absurd (not_none m _ at (ap (decided_in (core_finished c tx w.moved)) e ∙ none-tx)))
             (λ (other : t ≢ tx).
             let was_open : decided_in c t ≡ Some m = same-there t other ∙ at in
-            ready-other (λ n. true) true true w.moved (kept_of f) (settle_one w.moved (kept_of f)) (settled-whole w.moved (kept_of f)) m (all-apart t tx other m w.moved was_open open-tx) (joint.ready t m was_open))
+            ready-other (λ n. true) true true w.moved (kept_of f) (settle_one w.moved (kept_of f)) (settled-whole w.moved (kept_of f)) m (decided-apart f c joint t tx other m w.moved was_open open-tx) (joint.ready t m was_open))
             (cases_eq t tx);
         held = λ p. ap (λ (k : Kept). maps.get k.held p) (front (kept_of f)) ∙ joint.held p;
         numbers = λ t lt.
@@ -207,6 +200,7 @@ joint-kept f c joint files copies ready whole = record {
   agrees = joint.agrees;
   ended = joint.ended;
   distinct = joint.distinct;
+  moved = joint.moved;
   apart = joint.apart;
   plain = joint.plain;
   ready = ready;
@@ -233,6 +227,7 @@ joint-backed_up f c joint b whole = record {
   agrees = joint.agrees;
   ended = joint.ended;
   distinct = joint.distinct;
+  moved = joint.moved;
   apart = joint.apart;
   plain = joint.plain;
   ready = joint.ready;

@@ -16,8 +16,7 @@ use Rattle.dl_codec.specs.declared.links.BranchPhase.{BranchPhase}
 use Rattle.dl_codec.specs.declared.links.BranchPhase.TheVariants.{Prepared, Committed, Done}
 use Rattle.dl_codec.specs.declared.links.LinksRecord.TheVariants as links_records
 use Rattle.dl_codec.specs.declared.rows.RowsRecord.TheVariants as rows_records
-use Rattle.meaning_areas.specs.FilesArea.{with_changes}
-use Rattle.meaning_files.specs.Files.{Files}
+use Rattle.meaning_files.specs.Files.{Files, with_changes}
 use Rattle.meaning_settling.specs.Keyed.{is_at, put_at, over}
 use Rattle.meaning_settling.specs.Settling.{Copy, Copies, Moved, Kept, link_key, numbered, copy_of, first_copy, by_give, copy_after, copies_after, settle_one}
 use Rattle.meaning_settling.proofs.KeyedLaws.{either, is_at-self, get-put, or-left, or-right}

@@ -4,6 +4,9 @@ pub mod Tables
 pub mod Append
 pub mod Standing
 pub mod Steps
+pub mod OwnNumbers
+pub mod OnPaths
+pub mod Made
 pub mod Deciding
 pub mod Stops
 pub mod Opened

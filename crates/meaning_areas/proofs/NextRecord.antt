@@ -10,8 +10,7 @@ use Rattle.dl_base.specs.declared.file.FileChange.{FileChange}
 use Rattle.dl_base.specs.declared.value.LinkRow.{LinkRow}
 use Rattle.dl_codec.specs.declared.archive.ArchiveRecord.TheVariants as archive_records
 use Rattle.dl_codec.specs.declared.links.BranchPhase.TheVariants.{Committed}
-use Rattle.meaning_areas.specs.FilesArea.{with_changes}
-use Rattle.meaning_files.specs.Files.{Files}
+use Rattle.meaning_files.specs.Files.{Files, with_changes}
 use Rattle.meaning_settling.specs.Keyed.{is_at}
 use Rattle.meaning_settling.specs.Settling.{Copy, Moved, Kept, link_key, numbered, first_copy, by_give, copy_after, settle_one}
 use Rattle.meaning_settling.proofs.KeyedLaws.{either, is_at-same, find-key}

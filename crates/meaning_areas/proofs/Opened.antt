@@ -110,6 +110,7 @@ module _ (f : Folds) (compares : Compares f) (whole : IsWhole (stored_of f)) whe
     agrees = agrees;
     ended = compares.ended;
     distinct = compares.distinct;
+    moved = compares.moved;
     apart = λ t u other w v x y. compares.apart t u other w.moved v.moved (opened_open (commit_of t f.rows.commits) (maps.get f.links.table t) w x).0 (opened_open (commit_of u f.rows.commits) (maps.get f.links.table u) v y).0;
     plain = λ t w is none. no_plain w (opened_open (commit_of t f.rows.commits) (maps.get f.links.table t) w is).1 none;
     ready = λ t m is. let two = opened_decided (commit_of t f.rows.commits) (maps.get f.links.table t) m is in compares.ready t m two.0 two.1;

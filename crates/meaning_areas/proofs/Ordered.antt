@@ -15,6 +15,7 @@ stand-compared f s stand a = at a (let P : Stored → Type 0 = λ x. IsWhole x i
     at areas.Links whole = (
       record {
         distinct = stand.compares.distinct;
+        moved = stand.compares.moved;
         branches = stand.compares.branches;
         decided = stand.compares.decided;
         ended = stand.compares.ended;
@@ -36,6 +37,7 @@ pub compared-stand : (f : Folds) → ((a : Area) → ComparesAt f a) → IsStand
 compared-stand f at = record {
   compares = record {
     distinct = (at areas.Links).0.distinct;
+    moved = (at areas.Links).0.moved;
     branches = (at areas.Links).0.branches;
     decided = (at areas.Links).0.decided;
     ended = (at areas.Links).0.ended;

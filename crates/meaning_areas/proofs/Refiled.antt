@@ -1,5 +1,5 @@
 -- A FILE COMMAND: other files are settled to the same copies, where what open transactions archive first is as it was.
-use Rattle.std.proofs.Common.{◌≡◌, inl, inr, ⊎_elim, ℕ, List, [], ◌∷◌, Bool, true, false, cond, ◌&&◌, Option, Some, None, is_some, refl, sym, ◌∙◌, ap, subst}
+use Rattle.std.proofs.Common.{◌≡◌, ◌≢◌, inl, inr, ⊎_elim, ℕ, List, [], ◌∷◌, Bool, true, false, cond, ◌&&◌, Option, Some, None, is_some, refl, sym, ◌∙◌, ap, subst}
 use Rattle.std.specs.FinMap as maps
 use Rattle.dl_base.specs.declared.column.OnUnlink.{OnUnlink}
 use Rattle.dl_base.specs.declared.column.OnUnlink.TheVariants as unlink
@@ -9,8 +9,8 @@ use Rattle.dl_base.specs.declared.column.WriteBy.TheVariants as write
 use Rattle.dl_base.specs.declared.file.File.{File}
 use Rattle.dl_base.specs.declared.value.LinkRow.{LinkRow}
 use Rattle.meaning_files.specs.Files.{Files}
-use Rattle.meaning_settling.specs.Apart.{has_key, has_path}
-use Rattle.meaning_settling.specs.Settled.{AreApart, AreDistinct, IsIn, IsNot, settle_open, settled}
+use Rattle.meaning_settling.specs.Apart.{Apart, has_key, has_path}
+use Rattle.meaning_settling.specs.Settled.{AreDistinct, IsIn, IsNot, settle_open, settled}
 use Rattle.meaning_settling.specs.Settling.{Copies, Copy, Kept, Moved, blocked, by_give, by_links, copies_after, copy_after, file_after, filled, first_copy, given_back, link_key, numbered, on, restored, settle_one, taken_over}
 use Rattle.meaning_settling.proofs.KeyedLaws.{same_keyed}
 use Rattle.meaning_settling.proofs.PartLaws.{get-copies, get-copies-after, get-files, gives-has}
@@ -24,7 +24,7 @@ use Rattle.meaning_areas.specs.Lists.{Folds}
 use Rattle.meaning_areas.specs.Moving.{core_kept_as, with_kept}
 use Rattle.meaning_areas.specs.Stands.{IsWhole, txs_of}
 use Rattle.meaning_areas.proofs.Deciding.{joint-kept}
-use Rattle.meaning_areas.proofs.Untouched.{decided-apart}
+use Rattle.meaning_areas.proofs.OwnNumbers.{decided-apart}
 use Rattle.meaning_areas.proofs.Whole.{whole-files}
 
 false_true : false ≡ true → ⊥
@@ -107,7 +107,7 @@ record Refiled (open_at : ℕ → Option Moved) (ts : List ℕ) (k h : Kept) : T
   copies : h.copies ≡ k.copies
   reads : (t : ℕ) (m : Moved) → IsIn t ts → open_at t ≡ Some m → (n : List ℕ) (g : LinkRow) → numbered m.gives n ≡ Some g → g.options.recovery ≡ true → first_copy (maps.get k.copies n) (maps.get h.files g.path) ≡ first_copy (maps.get k.copies n) (maps.get k.files g.path)
 
-module _ (open_at : ℕ → Option Moved) (apart : AreApart open_at) where
+module _ (open_at : ℕ → Option Moved) (apart : (t u : ℕ) → t ≢ u → (a b : Moved) → open_at t ≡ Some a → open_at u ≡ Some b → Apart a b) where
   next : (t : ℕ) (ts : List ℕ) (k h : Kept) → AreDistinct (t ∷ ts) → Refiled open_at (t ∷ ts) k h → Refiled open_at ts (settle_open (open_at t) k) (settle_open (open_at t) h)
   next t ts k h once is = by (open_at t) refl
     where

@@ -4,7 +4,7 @@ use Rattle.std.proofs.lemmas.Bool.{cases_eq}
 use Rattle.std.specs.FinMap as maps
 use Rattle.dl_base.specs.declared.value.LinkRow.{LinkRow}
 use Rattle.dl_codec.specs.declared.links.BranchPhase.TheVariants.{Prepared}
-use Rattle.meaning_tables.specs.Links.{links}
+use Rattle.meaning_tables.specs.Links.{links, gives, takes}
 use Rattle.meaning_settling.specs.Apart.{IsReady}
 use Rattle.meaning_settling.specs.Settling.{Moved, on, held_after}
 use Rattle.meaning_settling.proofs.SettledLaws.{settled-tests}
@@ -14,6 +14,8 @@ use Rattle.meaning_areas.specs.Core.{Stage, active, prepared, decided, Work, Cor
 use Rattle.meaning_areas.specs.Lists.{Folds}
 use Rattle.meaning_areas.specs.Joint.{Joint}
 use Rattle.meaning_areas.specs.Stands.{txs_of, kept_of, stored_with, AreDrawn, IsWhole}
+use Rattle.meaning_areas.proofs.OnPaths.{lacks-none, last-differs}
+use Rattle.meaning_areas.proofs.Whole.{in-last}
 use Rattle.meaning_areas.proofs.Steps.{work-here, work-there, joint-begun, joint-claimed, joint-prepared, joint-voted, joint-ended}
 use Rattle.meaning_areas.proofs.Deciding.{joint-decided, joint-finished}
 use Rattle.meaning_areas.specs.Moving.{with_table, with_decision, with_finish, core_with, core_decided, core_finished, core_restored}
@@ -61,18 +63,19 @@ module _ (f : Folds) (c : Core) (joint : Joint f c) (idle : (q : ℕ) → c.work
   pub claiming-there : (t : ℕ) → t ≡ c.drawn + 1 → (claiming c m).works t ≡ Some (record { stage = prepared; branch = true; moved = m })
   claiming-there t number = ap (claiming c m).works number ∙ work-here (claimed_core c m).works (c.drawn + 1) (Some (record { stage = prepared; branch = true; moved = m }))
 
-  module _ (d : Commit) (number : d.tx ≡ c.drawn + 1) (flag : d.branch ≡ true) (gives : d.gives ≡ m.gives) (takes : d.takes ≡ m.takes)
+  module _ (d : Commit) (number : d.tx ≡ c.drawn + 1) (flag : d.branch ≡ true) (given_up : d.gives ≡ m.gives) (taken_on : d.takes ≡ m.takes)
+      (away : d.gives ≡ gives (tables_after [] c.commits) d.tables) (added : d.takes ≡ takes (tables_after [] c.commits) d.tables)
       (moved : (p : List ℕ) → on (links d.tables) p ≡ held_after m p (on (links (tables_after [] f.rows.commits)) p)) (ready : IsReady m (kept_of f)) (drawn : AreDrawn f.rows.opening (links d.tables))
       (whole : IsWhole (core_stored (core_decided (claiming c m) d (record { stage = prepared; branch = true; moved = m })))) where
     pub restore-committed : Joint (with_decision (restoring f (c.drawn + 1) m) d) (core_decided (claiming c m) d (record { stage = prepared; branch = true; moved = m }))
-    restore-committed = joint-decided (restoring f (c.drawn + 1) m) (claiming c m) restore-prepared d (record { stage = prepared; branch = true; moved = m }) (claiming-there d.tx number) refl flag gives takes moved ready drawn whole
+    restore-committed = joint-decided (restoring f (c.drawn + 1) m) (claiming c m) restore-prepared d (record { stage = prepared; branch = true; moved = m }) (claiming-there d.tx number) refl flag given_up taken_on away added moved ready drawn whole
 
     pub restore-finished : Joint (with_finish (with_decision (restoring f (c.drawn + 1) m) d) d.tx m) (core_finished (core_decided (claiming c m) d (record { stage = prepared; branch = true; moved = m })) d.tx m)
     restore-finished = joint-finished (with_decision (restoring f (c.drawn + 1) m) d) (core_decided (claiming c m) d (record { stage = prepared; branch = true; moved = m })) restore-committed d.tx (record { stage = decided; branch = true; moved = m })
         (work-here (claiming c m).works d.tx (Some (record { stage = decided; branch = true; moved = m }))) refl refl
 
 -- WITHOUT A BRANCH it is Begin, Prepare, Decide and Finish of a transaction that moves nothing
-module _ (f : Folds) (c : Core) (joint : Joint f c) (small : c.drawn + 1 < (c.rows_opening + 1) * 2 ^ 32) (d : Commit) (number : d.tx ≡ c.drawn + 1) (flag : d.branch ≡ false) (gives : d.gives ≡ []) (takes : d.takes ≡ [])
+module _ (f : Folds) (c : Core) (joint : Joint f c) (small : c.drawn + 1 < (c.rows_opening + 1) * 2 ^ 32) (d : Commit) (number : d.tx ≡ c.drawn + 1) (flag : d.branch ≡ false) (given_up : d.gives ≡ []) (taken_on : d.takes ≡ [])
     (same : (p : List ℕ) → on (links d.tables) p ≡ on (links (tables_after [] f.rows.commits)) p) (drawn : AreDrawn f.rows.opening (links d.tables)) (whole : IsWhole (core_stored (core_restored c d))) where
   abbrev plain : Stage → Work
   plain stage = record { stage = stage; branch = false; moved = no_moved }
@@ -118,8 +121,18 @@ module _ (f : Folds) (c : Core) (joint : Joint f c) (small : c.drawn + 1 < (c.ro
   stores : core_stored committed ≡ core_stored (core_restored c d)
   stores = ap (stored_with (c.commits ++ d ∷ []) c.backups c.rows_opening c.links_opening) (settled-tests (decided_in committed) (decided_in c) (txs_of (c.commits ++ d ∷ [])) (core_kept c) (λ t is. tests t))
 
+  -- it takes no link away and adds none
+  same-there : (p : List ℕ) → on (links d.tables) p ≡ on (links (tables_after [] c.commits)) p
+  same-there p = same p ∙ ap (λ (cs : List Commit). on (links (tables_after [] cs)) p) joint.commits
+
+  away : d.gives ≡ gives (tables_after [] c.commits) d.tables
+  away = given_up ∙ sym (lacks-none (links (tables_after [] c.commits)) (links d.tables) (last-differs [] c.commits refl joint.whole.paths) (λ p l at. same-there p ∙ at))
+
+  added : d.takes ≡ takes (tables_after [] c.commits) d.tables
+  added = taken_on ∙ sym (lacks-none (links d.tables) (links (tables_after [] c.commits)) (whole.paths d (in-last d c.commits)) (λ p l at. sym (same-there p) ∙ at))
+
   decides : Joint (with_decision f d) committed
-  decides = joint-decided f waiting waits d (plain prepared) waiting-there refl flag gives takes same (λ n g e r. absurd (none_some g e)) drawn (subst IsWhole (sym stores) whole)
+  decides = joint-decided f waiting waits d (plain prepared) waiting-there refl flag given_up taken_on away added same (λ n g e r. absurd (none_some g e)) drawn (subst IsWhole (sym stores) whole)
     where
       none_some : (x : LinkRow) → None ≡ Some x → ⊥
       none_some x e = cc

@@ -3,7 +3,7 @@ use Rattle.std.proofs.Common.{◌≡◌, ⊎_elim, ℕ, ◌+◌, ◌*◌, ◌^�
 use Rattle.std.specs.FinMap as maps
 use Rattle.dl_codec.specs.declared.links.BranchPhase.{BranchPhase}
 use Rattle.dl_codec.specs.declared.links.BranchPhase.TheVariants.{Prepared, Committed, Done, Aborted}
-use Rattle.meaning_settling.specs.Apart.{Apart}
+use Rattle.meaning_settling.specs.Apart.{ShareNoPath}
 use Rattle.meaning_settling.specs.Settled.{settle_open, settled}
 use Rattle.meaning_settling.specs.Settling.{Moved, Kept, settle_one}
 use Rattle.meaning_settling.proofs.SettledLaws.{settled-tests}
@@ -140,13 +140,14 @@ module _ (f : Folds) (c : Core) (joint : Joint f c) where
   pub joint-compares : Compares f
   joint-compares = record {
     distinct = joint.distinct;
+    moved = joint.moved;
     branches = λ tx d is. branch_is (c.works tx) (commit_of tx f.rows.commits) (maps.get f.links.table tx) (joint.plain tx) (joint.agrees tx) d is;
     decided = λ tx b at past. past_is (c.works tx) (commit_of tx f.rows.commits) (maps.get f.links.table tx) b (joint.agrees tx) at past;
     ended = joint.ended;
     apart = λ t u other a b x y.
         let first = open_works (c.works t) (commit_of t f.rows.commits) (maps.get f.links.table t) a (joint.agrees t) x in
         let second = open_works (c.works u) (commit_of u f.rows.commits) (maps.get f.links.table u) b (joint.agrees u) y in
-        subst (λ (z : Moved). Apart z b) first.2 (subst (λ (z : Moved). Apart first.0.moved z) second.2 (joint.apart t u other first.0 second.0 first.1 second.1));
+        subst (λ (z : Moved). ShareNoPath z b) first.2 (subst (λ (z : Moved). ShareNoPath first.0.moved z) second.2 (joint.apart t u other first.0 second.0 first.1 second.1));
     ready = λ tx m some is. joint.ready tx m (sym (same-tests tx some) ∙ is);
     held = λ p. ap (λ (k : Kept). maps.get k.held p) same-settled ∙ joint.held p;
     numbers = λ tx lt. let n = joint.numbers tx (late tx lt) in (n.1, n.2);

@@ -5,7 +5,7 @@ use Rattle.std.specs.FinMap as maps
 use Rattle.std.specs.Ordering.{nat_cmp}
 use Rattle.dl_codec.specs.declared.links.BranchPhase.{BranchPhase}
 use Rattle.dl_codec.specs.declared.links.BranchPhase.TheVariants.{Prepared, Done, Aborted}
-use Rattle.meaning_settling.specs.Apart.{Apart}
+use Rattle.meaning_settling.specs.Apart.{ShareNoPath}
 use Rattle.meaning_settling.specs.Settled.{settle_open, settled}
 use Rattle.meaning_settling.specs.Settling.{Moved, Kept, settle_one}
 use Rattle.meaning_settling.proofs.SettledLaws.{settled-tests}
@@ -21,14 +21,11 @@ use Rattle.meaning_areas.specs.Moving.{with_table, core_with}
 false_true : false ≡ true → ⊥
 false_true e = cc
 
-pub apart-sym : (a b : Moved) → Apart a b → Apart b a
-apart-sym a b x = record {
-  paths = λ p. ⊎_elim (λ e. inr e) (λ e. inl e) (x.paths p);
-  keys = λ n. ⊎_elim (λ e. inr e) (λ e. inl e) (x.keys n);
-}
+pub share-sym : (a b : Moved) → ShareNoPath a b → ShareNoPath b a
+share-sym a b x p = ⊎_elim (λ e. inr e) (λ e. inl e) (x p)
 
-pub apart-none : (b : Moved) → Apart no_moved b
-apart-none b = record { paths = λ p. inl refl; keys = λ n. inl refl }
+pub share-none : (b : Moved) → ShareNoPath no_moved b
+share-none b p = inl refl
 
 module _ (works : ℕ → Option Work) (tx : ℕ) (o : Option Work) where
   pub work-here : with_work works tx o tx ≡ o
@@ -56,14 +53,14 @@ same-held f (t ∷ ts) k h held = same-held f ts (settle_open (f t) k) (settle_o
 
 module _ (f : Folds) (c : Core) (joint : Joint f c) where
   -- who is apart from all others
-  pub apart-with : (tx : ℕ) (o : Option Work) → ((u : ℕ) → u ≢ tx → (w v : Work) → o ≡ Some w → c.works u ≡ Some v → Apart w.moved v.moved)
-      → (t u : ℕ) → t ≢ u → (w v : Work) → with_work c.works tx o t ≡ Some w → with_work c.works tx o u ≡ Some v → Apart w.moved v.moved
+  pub apart-with : (tx : ℕ) (o : Option Work) → ((u : ℕ) → u ≢ tx → (w v : Work) → o ≡ Some w → c.works u ≡ Some v → ShareNoPath w.moved v.moved)
+      → (t u : ℕ) → t ≢ u → (w v : Work) → with_work c.works tx o t ≡ Some w → with_work c.works tx o u ≡ Some v → ShareNoPath w.moved v.moved
   apart-with tx o here t u other w v x y = ⊎_elim
       (λ (e : t ≡ tx).
       let not_u : u ≢ tx = λ (is : u ≡ tx). other (e ∙ sym is) in
       here u not_u w v (sym (work-here c.works tx o) ∙ ap (with_work c.works tx o) (sym e) ∙ x) (sym (work-there c.works tx o u not_u) ∙ y))
       (λ (not_t : t ≢ tx). ⊎_elim
-      (λ (e : u ≡ tx). apart-sym v.moved w.moved (here t not_t v w (sym (work-here c.works tx o) ∙ ap (with_work c.works tx o) (sym e) ∙ y) (sym (work-there c.works tx o t not_t) ∙ x)))
+      (λ (e : u ≡ tx). share-sym v.moved w.moved (here t not_t v w (sym (work-here c.works tx o) ∙ ap (with_work c.works tx o) (sym e) ∙ y) (sym (work-there c.works tx o t not_t) ∙ x)))
       (λ (not_u : u ≢ tx). joint.apart t u other w v (sym (work-there c.works tx o t not_t) ∙ x) (sym (work-there c.works tx o u not_u) ∙ y))
       (cases_eq u tx))
       (cases_eq t tx)
@@ -74,7 +71,7 @@ module _ (f : Folds) (c : Core) (joint : Joint f c) where
       → Agrees o (commit_of tx f.rows.commits) (maps.get table tx)
       → (has_number tx f.rows.ended ≡ true → (m : Moved) × (maps.get table tx ≡ Some (branch m Done)))
       → ((b : Branch) → maps.get table tx ≡ Some b → AreDrawn f.rows.opening b.moved.gives × AreDrawn f.rows.opening b.moved.takes)
-      → ((u : ℕ) → u ≢ tx → (w v : Work) → o ≡ Some w → c.works u ≡ Some v → Apart w.moved v.moved)
+      → ((u : ℕ) → u ≢ tx → (w v : Work) → o ≡ Some w → c.works u ≡ Some v → ShareNoPath w.moved v.moved)
       → ((w : Work) → o ≡ Some w → w.branch ≡ false → (w.moved.gives ≡ []) × (w.moved.takes ≡ []))
       → decided_work o ≡ decided_work (c.works tx)
       → c.drawn ≤ drawn → (drawn < tx → ⊥) → drawn < (c.rows_opening + 1) * 2 ^ 32
@@ -99,6 +96,7 @@ module _ (f : Folds) (c : Core) (joint : Joint f c) where
             (λ (other : q ≢ tx). let was = joint.ended q is in (was.0, there q other ∙ was.1))
             (cases_eq q tx);
         distinct = joint.distinct;
+        moved = joint.moved;
         apart = apart-with tx o apart;
         plain = λ t w is. ⊎_elim
             (λ (e : t ≡ tx). plain w (sym (work-here c.works tx o) ∙ ap (with_work c.works tx o) (sym e) ∙ is))
@@ -138,7 +136,7 @@ module _ (f : Folds) (c : Core) (joint : Joint f c) where
       let new = joint.numbers (c.drawn + 1) (more c.drawn) in
       joint-at (c.drawn + 1) (c.drawn + 1) (Some (record { stage = active; branch = false; moved = no_moved })) f.links.table (λ q other. refl) (new.1, new.2)
       (joint.ended (c.drawn + 1)) (joint.drawn_branches (c.drawn + 1))
-      (λ u other w v is x. (let P : Work → Type 0 = λ y. Apart y.moved v.moved in subst P (some_same (record { stage = active; branch = false; moved = no_moved }) w is) (apart-none v.moved)))
+      (λ u other w v is x. (let P : Work → Type 0 = λ y. ShareNoPath y.moved v.moved in subst P (some_same (record { stage = active; branch = false; moved = no_moved }) w is) (share-none v.moved)))
       (λ w is b. (let P : Work → Type 0 = λ y. (y.moved.gives ≡ []) × (y.moved.takes ≡ []) in subst P (some_same (record { stage = active; branch = false; moved = no_moved }) w is) (refl, refl)))
       (sym (ap decided_work new.0)) (le c.drawn) (not_less (c.drawn + 1)) small
     where
@@ -155,8 +153,8 @@ module _ (f : Folds) (c : Core) (joint : Joint f c) where
     keeps-le : c.drawn ≤ c.drawn
     keeps-le = omega arith
 
-    -- an accepted claim: nobody else holds its paths, and its numbers are its own
-    pub joint-claimed : (later : Work) → w.stage ≡ active → later.stage ≡ active → ((u : ℕ) (v : Work) → u ≢ tx → c.works u ≡ Some v → Apart later.moved v.moved) → (later.branch ≡ false → (later.moved.gives ≡ []) × (later.moved.takes ≡ []))
+    -- an accepted claim: nobody else holds its paths
+    pub joint-claimed : (later : Work) → w.stage ≡ active → later.stage ≡ active → ((u : ℕ) (v : Work) → u ≢ tx → c.works u ≡ Some v → ShareNoPath later.moved v.moved) → (later.branch ≡ false → (later.moved.gives ≡ []) × (later.moved.takes ≡ []))
         → Joint f (core_with c (with_work c.works tx (Some later)) c.drawn)
     joint-claimed later was now apart plain =
         let a = agrees-of tx w is in
@@ -164,7 +162,7 @@ module _ (f : Folds) (c : Core) (joint : Joint f c) where
         let none : (commit_of tx f.rows.commits ≡ None) × (maps.get f.links.table tx ≡ None) = subst P was a in
         let Q : Stage → Type 0 = λ s. AgreesAt s later (commit_of tx f.rows.commits) (maps.get f.links.table tx) in
         joint-at tx c.drawn (Some later) f.links.table (λ q other. refl) (subst Q (sym now) none) (joint.ended tx) (joint.drawn_branches tx)
-        (λ u other x v e y. (let R : Work → Type 0 = λ z. Apart z.moved v.moved in subst R (some_same later x e) (apart u v other y)))
+        (λ u other x v e y. (let R : Work → Type 0 = λ z. ShareNoPath z.moved v.moved in subst R (some_same later x e) (apart u v other y)))
         (λ x e. (let R : Work → Type 0 = λ z. z.branch ≡ false → (z.moved.gives ≡ []) × (z.moved.takes ≡ []) in subst R (some_same later x e) plain))
         (undecided later now ∙ sym (ap decided_work is ∙ undecided w was)) keeps-le (is-drawn tx w is) joint.small
       where
@@ -175,10 +173,10 @@ module _ (f : Folds) (c : Core) (joint : Joint f c) where
     abbrev voted : Work
     voted = record { stage = prepared; branch = w.branch; moved = w.moved }
 
-    apart-same : (x : Work) → x.moved ≡ w.moved → (u : ℕ) → u ≢ tx → (y v : Work) → Some x ≡ Some y → c.works u ≡ Some v → Apart y.moved v.moved
+    apart-same : (x : Work) → x.moved ≡ w.moved → (u : ℕ) → u ≢ tx → (y v : Work) → Some x ≡ Some y → c.works u ≡ Some v → ShareNoPath y.moved v.moved
     apart-same x same u other y v e z =
-        let R : Work → Type 0 = λ a. Apart a.moved v.moved in
-        let S : Moved → Type 0 = λ a. Apart a v.moved in
+        let R : Work → Type 0 = λ a. ShareNoPath a.moved v.moved in
+        let S : Moved → Type 0 = λ a. ShareNoPath a v.moved in
         subst R (some_same x y e) (subst S (sym same) (joint.apart tx u (λ (d : tx ≡ u). other (sym d)) w v is z))
 
     plain-same : (x : Work) → x.moved ≡ w.moved → x.branch ≡ w.branch → (y : Work) → Some x ≡ Some y → y.branch ≡ false → (y.moved.gives ≡ []) × (y.moved.takes ≡ [])

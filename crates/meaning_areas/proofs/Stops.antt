@@ -3,7 +3,7 @@ use Rattle.std.proofs.Common.{◌≡◌, ◌≢◌, ◌⊎◌, inl, inr, ⊎_eli
 use Rattle.std.specs.FinMap as maps
 use Rattle.dl_base.specs.declared.value.LinkRow.{LinkRow}
 use Rattle.meaning_tables.specs.Links.{links}
-use Rattle.meaning_settling.specs.Apart.{Apart}
+use Rattle.meaning_settling.specs.Apart.{ShareNoPath}
 use Rattle.meaning_settling.specs.Settled.{settled}
 use Rattle.meaning_settling.specs.Settling.{Moved, Kept}
 use Rattle.meaning_settling.proofs.SettledLaws.{settled-tests}
@@ -14,7 +14,7 @@ use Rattle.meaning_areas.specs.Lists.{Folds}
 use Rattle.meaning_areas.specs.Joint.{AgreesAt, Agrees, Joint}
 use Rattle.meaning_areas.specs.Stands.{txs_of, kept_of, AreDrawn, IsWhole}
 use Rattle.meaning_areas.proofs.Tables.{some_same}
-use Rattle.meaning_areas.proofs.Steps.{apart-sym, apart-none}
+use Rattle.meaning_areas.proofs.Steps.{share-sym, share-none}
 use Rattle.meaning_areas.specs.Moving.{with_links_opening, with_rows_opening, forgotten_at, forgotten, core_manager, left_at, left, core_database}
 
 false_true : false ≡ true → ⊥
@@ -74,6 +74,7 @@ joint-manager f c joint =
       agrees = λ t. forgets_agrees (c.works t) (commit_of t f.rows.commits) (maps.get f.links.table t) (joint.agrees t);
       ended = joint.ended;
       distinct = joint.distinct;
+      moved = joint.moved;
       apart = λ t u other w v x y. two t u other w v (forgets_to (c.works t) w x) (forgets_to (c.works u) v y);
       plain = λ t v is none. plain_of t v (forgets_to (c.works t) v is) none;
       ready = λ t m is. joint.ready t m (sym (tests t) ∙ is);
@@ -85,13 +86,13 @@ joint-manager f c joint =
       whole = whole-opening c (core_manager c) refl (ap (λ (k : Kept). k.files) same) (ap (λ (k : Kept). k.copies) same) refl joint.whole;
     }
   where
-    two : (t u : ℕ) → t ≢ u → (w v : Work) → Forgot (c.works t) w → Forgot (c.works u) v → Apart w.moved v.moved
+    two : (t u : ℕ) → t ≢ u → (w v : Work) → Forgot (c.works t) w → Forgot (c.works u) v → ShareNoPath w.moved v.moved
     two t u other w v x y = ⊎_elim
         (λ (first : (a : Work) × (c.works t ≡ Some a) × (w.moved ≡ a.moved) × (w.branch ≡ a.branch)). ⊎_elim
-        (λ (second : (a : Work) × (c.works u ≡ Some a) × (v.moved ≡ a.moved) × (v.branch ≡ a.branch)). subst (λ (z : Moved). Apart z v.moved) (sym first.2) (subst (λ (z : Moved). Apart first.0.moved z) (sym second.2) (joint.apart t u other first.0 second.0 first.1 second.1)))
-        (λ (second : v.moved ≡ no_moved). subst (λ (z : Moved). Apart w.moved z) (sym second) (apart-sym no_moved w.moved (apart-none w.moved)))
+        (λ (second : (a : Work) × (c.works u ≡ Some a) × (v.moved ≡ a.moved) × (v.branch ≡ a.branch)). subst (λ (z : Moved). ShareNoPath z v.moved) (sym first.2) (subst (λ (z : Moved). ShareNoPath first.0.moved z) (sym second.2) (joint.apart t u other first.0 second.0 first.1 second.1)))
+        (λ (second : v.moved ≡ no_moved). subst (λ (z : Moved). ShareNoPath w.moved z) (sym second) (share-sym no_moved w.moved (share-none w.moved)))
         y)
-        (λ (first : w.moved ≡ no_moved). subst (λ (z : Moved). Apart z v.moved) (sym first) (apart-none v.moved))
+        (λ (first : w.moved ≡ no_moved). subst (λ (z : Moved). ShareNoPath z v.moved) (sym first) (share-none v.moved))
         x
 
     plain_of : (t : ℕ) (v : Work) → Forgot (c.works t) v → v.branch ≡ false → (v.moved.gives ≡ []) × (v.moved.takes ≡ [])
@@ -148,6 +149,7 @@ joint-database f c joint =
       agrees = λ t. left_agrees (c.works t) (commit_of t f.rows.commits) (maps.get f.links.table t) (joint.agrees t);
       ended = joint.ended;
       distinct = joint.distinct;
+      moved = joint.moved;
       apart = λ t u other w v x y. joint.apart t u other w v (left_to (c.works t) w x) (left_to (c.works u) v y);
       plain = λ t v is none. joint.plain t v (left_to (c.works t) v is) none;
       ready = λ t m is. joint.ready t m (sym (tests t) ∙ is);

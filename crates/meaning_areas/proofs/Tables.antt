@@ -6,7 +6,10 @@ use Rattle.std.specs.Ordering.{nat_cmp}
 use Rattle.std.specs.Cmp.{nat_cmp_total, unsigned_tied}
 use Rattle.std.specs.FinMap as maps
 use Rattle.std.specs.FinMap.{get-insert}
+use Rattle.dl_base.specs.declared.value.LinkRow.{LinkRow}
 use Rattle.meaning_settling.specs.Settled.{IsIn, IsNot, AreDistinct}
+use Rattle.meaning_settling.specs.Settling.{numbered}
+use Rattle.meaning_tables.specs.Links.{links}
 use Rattle.meaning_areas.specs.Commits.{Commit, commit_of, has_number, tables_after}
 use Rattle.meaning_areas.specs.Stands.{txs_of, IsCommit}
 
@@ -112,6 +115,22 @@ distinct-push (u ∷ us) t once new = (not-push us once.0, distinct-push us t on
 pub commit-push : (x c : Commit) (cs : List Commit) → IsCommit x (cs ++ c ∷ []) → IsCommit x cs ⊎ (x ≡ c)
 commit-push x c [] is = ⊎_elim (λ (e : x ≡ c). inr e) (λ never. absurd never) is
 commit-push x c (d ∷ ds) is = ⊎_elim (λ (e : x ≡ d). inl (inl e)) (λ later. ⊎_elim (λ was. inl (inr was)) (λ (e : x ≡ c). inr e) (commit-push x c ds later)) is
+
+-- a link number has one path and the same options
+abbrev pub OneLink : List Commit → Type 0
+OneLink cs = (c d : Commit) (n : List ℕ) (x y : LinkRow) → IsCommit c cs → IsCommit d cs → numbered (links c.tables) n ≡ Some x → numbered (links d.tables) n ≡ Some y → x ≡ y
+
+pub one-link-push : (cs : List Commit) (d : Commit) → OneLink cs → ((x : Commit) (n : List ℕ) (a b : LinkRow) → IsCommit x cs → numbered (links x.tables) n ≡ Some a → numbered (links d.tables) n ≡ Some b → a ≡ b) → OneLink (cs ++ d ∷ [])
+one-link-push cs d old new x y n a b in_x in_y at_x at_y = ⊎_elim
+    (λ old_x. ⊎_elim
+    (λ old_y. old x y n a b old_x old_y at_x at_y)
+    (λ (e : y ≡ d). new x n a b old_x at_x (ap (λ (z : Commit). numbered (links z.tables) n) (sym e) ∙ at_y))
+    (commit-push y d cs in_y))
+    (λ (e : x ≡ d). ⊎_elim
+    (λ old_y. sym (new y n b a old_y at_y (ap (λ (z : Commit). numbered (links z.tables) n) (sym e) ∙ at_x)))
+    (λ (e2 : y ≡ d). some_same a b (sym at_x ∙ ap (λ (z : Commit). numbered (links z.tables) n) (e ∙ sym e2) ∙ at_y))
+    (commit-push y d cs in_y))
+    (commit-push x d cs in_x)
 
 pub has-push : (q x : ℕ) (xs : List ℕ) → has_number q (xs ++ x ∷ []) ≡ true → (has_number q xs ≡ true) ⊎ (q ≡ x)
 has-push q x [] is = ⊎_elim (λ (e : x ≡ q). inr (sym e)) (λ (other : x ≢ q). absurd (no (ap (λ b. cond b true false) (sym (test-other x q other)) ∙ is))) (cases_eq x q)

@@ -1,41 +1,28 @@
 -- The path of a committed link that no open commit takes has nothing open on it.
-use Rattle.std.proofs.Common.{◌≡◌, ◌≢◌, ⊎_elim, ℕ, List, [], ◌∷◌, Bool, true, false, cond, ◌==◌, ◌&&◌, ◌||◌, map, Option, Some, None, is_some, refl, sym, ◌∙◌, ap, subst}
+use Rattle.std.proofs.Common.{◌≡◌, ◌≢◌, ⊎_elim, ℕ, List, [], ◌∷◌, Bool, true, false, cond, ◌==◌, ◌||◌, map, Option, Some, None, is_some, refl, sym, ◌∙◌, ap, subst}
 use Rattle.std.proofs.lemmas.Bool.{cases_eq}
 use Rattle.std.specs.FinMap as maps
 use Rattle.std.specs.List.{list_any}
 use Rattle.dl_base.specs.declared.value.LinkRow.{LinkRow}
-use Rattle.meaning_settling.specs.Apart.{Apart, has_path}
+use Rattle.meaning_settling.specs.Apart.{has_path}
 use Rattle.meaning_settling.specs.Keyed.{is_at}
-use Rattle.meaning_settling.specs.Settled.{AreApart, IsIn}
+use Rattle.meaning_settling.specs.Settled.{IsIn}
 use Rattle.meaning_settling.specs.Settling.{Kept, Moved, held_by, on, settle_one}
 use Rattle.meaning_settling.proofs.KeyedLaws.{any-append}
 use Rattle.meaning_settling.proofs.PartLaws.{get-held}
 use Rattle.meaning_settling.proofs.SettledLaws.{settled-front, settled-held}
 use Rattle.meaning_tables.specs.Links.{links}
 use Rattle.meaning_areas.specs.Commits.{commit_of, tables_after}
-use Rattle.meaning_areas.specs.Core.{Core, Stage, Work, active, decided, decided_in, decided_work, is_decided, prepared}
+use Rattle.meaning_areas.specs.Core.{Core, Stage, decided_in}
 use Rattle.meaning_areas.specs.Joint.{AgreesAt, Joint}
 use Rattle.meaning_areas.specs.Lists.{Folds}
 use Rattle.meaning_areas.specs.Stands.{kept_of, txs_of}
+use Rattle.meaning_areas.proofs.OwnNumbers.{decided-apart, decided-is}
 use Rattle.meaning_areas.proofs.Steps.{agrees-of}
-use Rattle.meaning_areas.proofs.Tables.{commit-in, not_none, some_same, test-other, test-same}
+use Rattle.meaning_areas.proofs.Tables.{commit-in, not_none, test-other, test-same}
 
 false_true : false ≡ true → ⊥
 false_true e = cc
-
--- a decided transaction is a work
-pub decided-is : (c : Core) (t : ℕ) (m : Moved) → decided_in c t ≡ Some m → (w : Work) × (c.works t ≡ Some w) × (w.stage ≡ decided) × (w.moved ≡ m)
-decided-is c t m e = by (c.works t) refl e
-  where
-    of : (w : Work) (s : Stage) → w.stage ≡ s → (b : Bool) → c.works t ≡ Some w → cond (is_decided s && b) (Some w.moved) None ≡ Some m → (x : Work) × (c.works t ≡ Some x) × (x.stage ≡ decided) × (x.moved ≡ m)
-    of w active is b at same = absurd cc
-    of w prepared is b at same = absurd cc
-    of w decided is true at same = (w, at, is, some_same w.moved m same)
-    of w decided is false at same = absurd cc
-
-    by : (o : Option Work) → c.works t ≡ o → decided_work o ≡ Some m → (x : Work) × (c.works t ≡ Some x) × (x.stage ≡ decided) × (x.moved ≡ m)
-    by None at same = absurd cc
-    by (Some w) at same = of w w.stage refl w.branch at same
 
 found-none : (ls : List LinkRow) (p : List ℕ) → on ls p ≡ None → list_any (is_at p) (map (λ l. l.path) ls) ≡ false
 found-none [] p e = refl
@@ -46,14 +33,6 @@ found-none (l ∷ ls) p e = by (found-none ls p) (is_at p l.path) e
     by rest false is = rest is
 
 module _ (f : Folds) (c : Core) (joint : Joint f c) where
-  -- decided ones are apart
-  pub decided-apart : AreApart (decided_in c)
-  decided-apart t u other a b at_t at_u =
-      let w = decided-is c t a at_t in
-      let v = decided-is c u b at_u in
-      let P : Moved → Moved → Type 0 = λ x y. Apart x y in
-      subst (λ (x : Moved). P x b) w.3 (subst (P w.0.moved) v.3 (joint.apart t u other w.0 v.0 w.1 v.1))
-
   pub open-off : (p : List ℕ) (l : LinkRow) → on (links (tables_after [] f.rows.commits)) p ≡ Some l → ((t : ℕ) (m : Moved) → decided_in c t ≡ Some m → on m.takes p ≡ Some l → ⊥) → (t : ℕ) (m : Moved) → decided_in c t ≡ Some m → has_path m p ≡ false
   open-off p l at never t m is = by (has_path m p) refl
     where
@@ -73,7 +52,7 @@ module _ (f : Folds) (c : Core) (joint : Joint f c) where
           (λ (not_t : q ≢ t). ⊎_elim
           (λ (lacks : has_path a p ≡ false). lacks)
           (λ (lacks : has_path m p ≡ false). absurd (false_true (sym lacks ∙ has)))
-          ((decided-apart q t not_t a m (other-at q not_t ∙ e) is).paths p))
+          ((decided-apart f c joint q t not_t a m (other-at q not_t ∙ e) is).paths p))
           (cases_eq q t)
 
       committed : IsIn t (txs_of f.rows.commits)
@@ -85,7 +64,7 @@ module _ (f : Folds) (c : Core) (joint : Joint f c) where
 
       behind : has_path m p ≡ true → held_by (on m.gives p) (on m.takes p) (maps.get f.links.held p) ≡ Some l
       behind has =
-          sym (ap (λ (k : Kept). maps.get k.held p) (settled-front (decided_in c) (λ q. cond (q == t) None (decided_in c q)) (txs_of f.rows.commits) t m (kept_of f) decided-apart is other-at none-at committed joint.distinct)
+          sym (ap (λ (k : Kept). maps.get k.held p) (settled-front (decided_in c) (λ q. cond (q == t) None (decided_in c q)) (txs_of f.rows.commits) t m (kept_of f) (λ q u in_q in_u. decided-apart f c joint q u) is other-at none-at committed joint.distinct)
           ∙ settled-held (λ q. cond (q == t) None (decided_in c q)) (txs_of f.rows.commits) (settle_one m (kept_of f)) p (off has) ∙ get-held m (kept_of f) p)
           ∙ joint.held p ∙ at
 

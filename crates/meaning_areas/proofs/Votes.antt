@@ -64,7 +64,7 @@ module _ (f : Folds) (c : Core) (joint : Joint f c) (tx : ℕ) (w : Work) (is : 
           subst (λ (x : Moved). has_path x p ≡ false) same (⊎_elim
           (λ (lacks : has_path v.moved p ≡ false). lacks)
           (λ (lacks : has_path w.moved p ≡ false). absurd (false_true (sym lacks ∙ has)))
-          ((joint.apart t tx other v w at is).paths p)))
+          (joint.apart t tx other v w at is p)))
           (cases_eq t tx)
 
   gives-hold : (gs : List LinkRow) → ((g : LinkRow) → list_any (same_link g) gs ≡ true → has_path w.moved g.path ≡ true) → ((g : LinkRow) → list_any (same_link g) gs ≡ true → on (links (tables_after [] f.rows.commits)) g.path ≡ Some g)

@@ -20,16 +20,16 @@ use Rattle.meaning_areas.specs.Commits.{Commit, tables_after}
 use Rattle.meaning_areas.specs.Merges.{Merges}
 use Rattle.meaning_areas.specs.Copies.{Backup}
 use Rattle.meaning_areas.specs.Stands.{past, Stored, stored_with, IsCommit, IsWhole}
-use Rattle.meaning_areas.proofs.Tables.{some_same, not_none, tables-push, commit-push}
+use Rattle.meaning_areas.proofs.Tables.{some_same, not_none, tables-push, commit-push, one-link-push}
 
 false_true : false ≡ true → ⊥
 false_true e = cc
 
-in-more : (x d : Commit) (cs : List Commit) → IsCommit x cs → IsCommit x (cs ++ d ∷ [])
+pub in-more : (x d : Commit) (cs : List Commit) → IsCommit x cs → IsCommit x (cs ++ d ∷ [])
 in-more x d [] is = absurd is
 in-more x d (c ∷ cs) is = ⊎_elim (λ e. inl e) (λ later. inr (in-more x d cs later)) is
 
-in-last : (d : Commit) (cs : List Commit) → IsCommit d (cs ++ d ∷ [])
+pub in-last : (d : Commit) (cs : List Commit) → IsCommit d (cs ++ d ∷ [])
 in-last d [] = inl refl
 in-last d (c ∷ cs) = inr (in-last d cs)
 
@@ -65,16 +65,7 @@ module _ (cs : List Commit) (bs : List Backup) (ro lo : ℕ) (k : Kept) (m : Mov
   pub whole-decided : IsWhole (stored_with (cs ++ d ∷ []) bs ro lo (settle_one m k))
   whole-decided = record {
     paths = λ x is. ⊎_elim (λ old. whole.paths x old) (λ (e : x ≡ d). subst (λ (y : Commit). IsTrue (differ is_at (map (λ (l : LinkRow). l.path) (links y.tables)))) (sym e) merges.paths) (commit-push x d cs is);
-    one_path = λ x y n a b in_x in_y at_x at_y. ⊎_elim
-        (λ old_x. ⊎_elim
-        (λ old_y. whole.one_path x y n a b old_x old_y at_x at_y)
-        (λ (e : y ≡ d). merges.one_path x n a b old_x at_x (ap (λ (z : Commit). numbered (links z.tables) n) (sym e) ∙ at_y))
-        (commit-push y d cs in_y))
-        (λ (e : x ≡ d). ⊎_elim
-        (λ old_y. sym (merges.one_path y n b a old_y at_y (ap (λ (z : Commit). numbered (links z.tables) n) (sym e) ∙ at_x)))
-        (λ (e2 : y ≡ d). some_same a b (sym at_x ∙ ap (λ (z : Commit). numbered (links z.tables) n) (e ∙ sym e2) ∙ at_y))
-        (commit-push y d cs in_y))
-        (commit-push x d cs in_x);
+    one_path = one-link-push cs d whole.one_path merges.one_path;
     files = λ p l e. file p l (on m.gives p) (on m.takes p) refl refl (on-last p l e);
     copies = λ n some. copy n (maps.get k.copies n) refl (sym (ap is_some (get-copies m k n)) ∙ some);
     archived = λ x n l is at r none. ⊎_elim

@@ -1,5 +1,5 @@
 -- What the records of the area Rows stand for: the commits, one after another.
-use Rattle.std.specs.Prelude.{ℕ, ◌+◌, ◌/◌, ◌^◌, ◌==◌, ◌&&◌, Bool, true, false, not, nat_lt, nat_le, if◌then◌else◌, List, [], ◌∷◌, ◌++◌, length, map, pos, Option, Some, None, is_none, Result, Ok, Err}
+use Rattle.std.specs.Prelude.{◌≡◌, ℕ, ◌+◌, ◌/◌, ◌^◌, ◌==◌, ◌&&◌, Bool, true, false, not, nat_lt, nat_le, if◌then◌else◌, List, [], ◌∷◌, ◌++◌, length, map, pos, Option, Some, None, is_none, Result, Ok, Err}
 use Rattle.std.specs.List.{list_all}
 use Rattle.std.specs.Option.{option_and_then}
 use Rattle.dl_base.specs.declared.column.Column.{Column}
@@ -149,6 +149,11 @@ commit_to commits tx branch tables = record {
   takes = takes (tables_after [] commits) tables;
   tables = tables;
 }
+
+-- each commit has the links that it took away and added; all that are made so have
+abbrev pub HaveMoved : Tables → List Commit → Type 0
+HaveMoved before [] = Unit {0}
+HaveMoved before (c ∷ cs) = (c.gives ≡ gives before c.tables) × (c.takes ≡ takes before c.tables) × HaveMoved c.tables cs
 
 abbrev pub with_commit : Commits → Commit → Commits
 with_commit r c = record { opening = r.opening; commits = r.commits ++ c ∷ []; ended = r.ended }

@@ -3,12 +3,12 @@ use Rattle.std.specs.Prelude.{◌≡◌, ◌≢◌, ◌⊎◌, ℕ, ◌+◌, ◌
 use Rattle.std.specs.FinMap as maps
 use Rattle.dl_codec.specs.declared.links.BranchPhase.{BranchPhase}
 use Rattle.dl_codec.specs.declared.links.BranchPhase.TheVariants.{Prepared, Done, Aborted}
-use Rattle.meaning_settling.specs.Apart.{Apart, IsReady}
+use Rattle.meaning_settling.specs.Apart.{ShareNoPath, IsReady}
 use Rattle.meaning_settling.specs.Settled.{settled, AreDistinct}
 use Rattle.meaning_settling.specs.Settling.{Moved, on}
 use Rattle.meaning_tables.specs.Links.{links}
 use Rattle.meaning_areas.specs.Branches.{Branch, branch}
-use Rattle.meaning_areas.specs.Commits.{Commit, commit_of, tables_after, has_number}
+use Rattle.meaning_areas.specs.Commits.{Commit, commit_of, tables_after, HaveMoved, has_number}
 use Rattle.meaning_areas.specs.Core.{Stage, active, prepared, decided, Work, Core, decided_in, core_stored}
 use Rattle.meaning_areas.specs.Lists.{Folds}
 use Rattle.meaning_areas.specs.Stands.{is_open, txs_of, kept_of, AreDrawn, IsCommit, IsWhole}
@@ -60,8 +60,9 @@ pub record Joint (f : Folds) (c : Core) : Type 0 where
   pub agrees : (tx : ℕ) → Agrees (c.works tx) (commit_of tx f.rows.commits) (maps.get f.links.table tx)
   pub ended : (tx : ℕ) → has_number tx f.rows.ended ≡ true → (m : Moved) × (maps.get f.links.table tx ≡ Some (branch m Done))
   pub distinct : AreDistinct (txs_of f.rows.commits)
-  -- the paths and numbers of no two transactions meet: each holds its own
-  pub apart : (t u : ℕ) → t ≢ u → (w v : Work) → c.works t ≡ Some w → c.works u ≡ Some v → Apart w.moved v.moved
+  pub moved : HaveMoved [] f.rows.commits
+  -- the paths of no two transactions meet: each holds its own
+  pub apart : (t u : ℕ) → t ≢ u → (w v : Work) → c.works t ≡ Some w → c.works u ≡ Some v → ShareNoPath w.moved v.moved
   pub plain : (t : ℕ) (w : Work) → c.works t ≡ Some w → w.branch ≡ false → (w.moved.gives ≡ []) × (w.moved.takes ≡ [])
   pub ready : (t : ℕ) (m : Moved) → decided_in c t ≡ Some m → IsReady m (kept_of f)
   pub held : (p : List ℕ) → maps.get (settled (decided_in c) (txs_of f.rows.commits) (kept_of f)).held p ≡ on (links (tables_after [] f.rows.commits)) p

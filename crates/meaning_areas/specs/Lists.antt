@@ -8,8 +8,7 @@ use Rattle.dl_codec.specs.declared.archive.ArchiveRecord.{ArchiveRecord}
 use Rattle.dl_codec.specs.declared.backups.BackupRecord.{BackupRecord}
 use Rattle.dl_codec.specs.declared.links.LinksRecord.{LinksRecord}
 use Rattle.dl_codec.specs.declared.rows.RowsRecord.{RowsRecord}
-use Rattle.meaning_areas.specs.FilesArea.{with_changes}
-use Rattle.meaning_files.specs.Files.{Files}
+use Rattle.meaning_files.specs.Files.{Files, with_changes}
 use Rattle.meaning_settling.specs.Settling.{Copies}
 use Rattle.meaning_areas.specs.Branches.{Branches, no_branches, links_step}
 use Rattle.meaning_areas.specs.Commits.{Commits, no_commits, rows_step}

@@ -1,5 +1,5 @@
 -- What the lists of the five areas stand for together.
-use Rattle.std.specs.Prelude.{◌≡◌, ◌⊎◌, ℕ, zero, suc, ◌/◌, ◌^◌, ◌<◌, ◌≤◌, Bool, true, false, IsTrue, if◌then◌else◌, List, [], ◌∷◌, map, Option, Some, None, is_some}
+use Rattle.std.specs.Prelude.{◌≡◌, ◌≢◌, ◌⊎◌, ℕ, zero, suc, ◌/◌, ◌^◌, ◌<◌, ◌≤◌, Bool, true, false, IsTrue, if◌then◌else◌, List, [], ◌∷◌, map, Option, Some, None, is_some}
 use Rattle.std.specs.FinMap as maps
 use Rattle.std.specs.List.{All}
 use Rattle.dl_base.specs.declared.file.File.{File}
@@ -10,12 +10,12 @@ use Rattle.meaning_files.specs.Files.{Files}
 use Rattle.meaning_tables.specs.Fits.{differ}
 use Rattle.meaning_tables.specs.Links.{links}
 use Rattle.meaning_tables.specs.Tables.{Tables}
-use Rattle.meaning_settling.specs.Apart.{IsReady}
+use Rattle.meaning_settling.specs.Apart.{ShareNoPath, IsReady}
 use Rattle.meaning_settling.specs.Keyed.{is_at}
-use Rattle.meaning_settling.specs.Settled.{settled, AreDistinct, AreApart}
+use Rattle.meaning_settling.specs.Settled.{settled, AreDistinct}
 use Rattle.meaning_settling.specs.Settling.{Copy, Copies, Moved, Kept, on, numbered, link_key}
 use Rattle.meaning_areas.specs.Branches.{Branch, Branches, branch, is_phase}
-use Rattle.meaning_areas.specs.Commits.{Commit, commit_of, tables_after, has_number}
+use Rattle.meaning_areas.specs.Commits.{Commit, commit_of, tables_after, HaveMoved, has_number}
 use Rattle.meaning_areas.specs.Lists.{Folds}
 use Rattle.meaning_areas.specs.Copies.{Backup}
 
@@ -83,16 +83,17 @@ AreReady f = (tx : ℕ) (m : Moved) → is_some (commit_of tx f.rows.commits) �
 
 -- How Rows and Links must fit each other before settling, and what else is asked of the branches in doubt.
 pub record Compared (f : Folds) (Ready : Type 0) : Type 0 where
-  -- no two commits are of one transaction
+  -- no two commits are of one transaction, and each has the links that it took away and added: the fold makes no others
   pub distinct : AreDistinct (txs_of f.rows.commits)
+  pub moved : HaveMoved [] f.rows.commits
   -- a commit with a branch has a Prepared of its number, not aborted, with the links that it took away and added; one without
   -- changes no link, and has no Prepared
   pub branches : (tx : ℕ) (c : Commit) → commit_of tx f.rows.commits ≡ Some c → IsBranch c.branch c.gives c.takes (maps.get f.links.table tx)
   -- each Committed has a commit, and each Ended a Done
   pub decided : (tx : ℕ) (b : Branch) → maps.get f.links.table tx ≡ Some b → is_past b.phase ≡ true → is_some (commit_of tx f.rows.commits) ≡ true
   pub ended : (tx : ℕ) → has_number tx f.rows.ended ≡ true → (m : Moved) × (maps.get f.links.table tx ≡ Some (branch m Done))
-  -- branches in doubt are on different paths and of different links
-  pub apart : AreApart (open_in f.links)
+  -- branches in doubt have different paths from each other
+  pub apart : (t u : ℕ) → t ≢ u → (a b : Moved) → open_in f.links t ≡ Some a → open_in f.links u ≡ Some b → ShareNoPath a b
   pub ready : Ready
   -- what is held after settling is what the last commit links
   pub held : (p : List ℕ) → maps.get (settled_of f).held p ≡ on (links (tables_after [] f.rows.commits)) p

@@ -1,5 +1,5 @@
 // What areas stand for, and how the steps of the machine keep it. The functions do nothing: they carry laws.
-ghost use Rattle.std.specs.Prelude.{◌≡◌, ℕ, ◌+◌, ◌*◌, ◌^◌, ◌<◌, true, false, List, [], ◌∷◌, ◌++◌, Option, Some, None, is_some};
+ghost use Rattle.std.specs.Prelude.{◌≡◌, ℕ, ◌+◌, ◌*◌, ◌^◌, ◌<◌, true, false, List, [], ◌∷◌, ◌++◌, Option, Some, None, is_some, Ok};
 ghost use Rattle.std.specs.Bool.{Decides};
 ghost use Rattle.std.specs.FinMap as maps;
 ghost use Rattle.std.specs.List.{list_any};
@@ -14,12 +14,13 @@ ghost use Rattle.dl_codec.specs.declared.rows.RowsRecord.TheVariants as rows_rec
 ghost use Rattle.meaning_files.specs.Files.{Files};
 ghost use Rattle.meaning_settling.specs.Apart.{IsReady, has_path};
 ghost use Rattle.meaning_settling.specs.Keyed.{is_at};
+ghost use Rattle.meaning_settling.specs.Settled.{AreApart, AreDistinct};
 ghost use Rattle.meaning_settling.specs.Settling.{Copies, Kept, Moved, copy_of, held_after, link_key, on, settle_one};
 ghost use Rattle.meaning_tables.specs.Links.{links};
 ghost use Rattle.meaning_tables.specs.Tables.{Rows, Tables};
-ghost use Rattle.meaning_areas.specs.Areas.{Areas, AreasStand, ComparesAt, StandForNothing};
+ghost use Rattle.meaning_areas.specs.Areas.{Areas, AreasStand, ComparesAt, StandForNothing, rows_of};
 ghost use Rattle.meaning_areas.specs.Branches.{Branches, branch, links_step, with_branch};
-ghost use Rattle.meaning_areas.specs.Commits.{Commit, Commits, commit_of, has_number, rows_step, tables_after, with_ended};
+ghost use Rattle.meaning_areas.specs.Commits.{Commit, Commits, HaveMoved, commit_of, commit_to, has_number, rows_step, tables_after, with_ended};
 ghost use Rattle.meaning_areas.specs.Copies.{Backup, copies_step};
 ghost use Rattle.meaning_areas.specs.Core.{Core, Work, active, core_stored, decided, decided_in, prepared};
 ghost use Rattle.meaning_areas.specs.Finishing.{AreNumbered, file_copy, finish_records, next_record};
@@ -28,7 +29,7 @@ ghost use Rattle.meaning_areas.specs.Lists.{Folds, folds_on, in_links, in_rows};
 ghost use Rattle.meaning_areas.specs.Merges.{Merges};
 ghost use Rattle.meaning_areas.specs.Moving.{IsClaim, Stays, at_stage, core_at, core_backed_up, core_begun, core_database, core_decided, core_finished, core_kept_as, core_manager, core_opened, core_restored, with_backup, with_decision, with_finish, with_kept, with_links_opening, with_rows_opening, with_table};
 ghost use Rattle.meaning_areas.specs.Same.{same_link, same_rows, same_tables};
-ghost use Rattle.meaning_areas.specs.Stands.{AreDrawn, Compares, IsStand, IsWhole, Stored, kept_of, past, stored_of, stored_with};
+ghost use Rattle.meaning_areas.specs.Stands.{AreDrawn, Compares, IsStand, IsWhole, Stored, kept_of, open_in, past, stored_of, stored_with, txs_of};
 
 /// The lists stand for something exactly where each area compares, and the areas for one stored part at most, or for nothing.
 pub fn areas_stand_where_all_compares()
@@ -36,6 +37,19 @@ pub fn areas_stand_where_all_compares()
     ensures stands { (f : Folds) → ((area : kinds.Area) → ComparesAt f area) → IsStand f (stored_of f) }
     ensures one { (x : Areas) (s t : Stored) → AreasStand x s → AreasStand x t → s ≡ t }
     ensures nothing { (x : Areas) (s : Stored) (at : kinds.Area × ℕ) → AreasStand x s → StandForNothing x at → ⊥ }
+{}
+
+/// What needs no test. A list of Rows that is taken has one commit of a transaction at most, and each has the links that it took away
+/// and added.
+pub fn commits_have_what_they_moved()
+    ensures { (bodies : List (List ℕ)) (r : Commits) → rows_of bodies ≡ Ok r → AreDistinct (txs_of r.commits) × HaveMoved [] r.commits }
+{}
+
+/// Branches in doubt that have a commit, and transactions that are decided, have nothing in common: they are on different paths, and a
+/// link number has one path in all commits.
+pub fn what_is_committed_is_apart()
+    ensures branches { (f : Folds) (s : Stored) → IsStand f s → AreApart (open_in f.links) (txs_of f.rows.commits) }
+    ensures works { (f : Folds) (c : Core) → Joint f c → AreApart (decided_in c) (txs_of c.commits) }
 {}
 
 /// ONE APPEND. For a committed branch in doubt the lists take the first record of its Finish that is not there, also the Ended
@@ -73,7 +87,7 @@ pub fn steps_keep_lists_with_their_core()
     ensures aborted { (f : Folds) (c : Core) (tx : ℕ) (w : Work) → Joint f c → c.works tx ≡ Some w → w.stage ≡ prepared → w.branch ≡ true
         → Joint (with_table f (maps.insert f.links.table tx (branch w.moved phases.Aborted))) (core_at c tx None) }
     ensures ended { (f : Folds) (c : Core) (tx : ℕ) (w : Work) → Joint f c → c.works tx ≡ Some w → w.stage ≡ decided → w.branch ≡ false → Joint f (core_at c tx None) }
-    ensures decided { (f : Folds) (c : Core) (d : Commit) (w : Work) → Joint f c → c.works d.tx ≡ Some w → w.stage ≡ prepared → d.branch ≡ w.branch → d.gives ≡ w.moved.gives → d.takes ≡ w.moved.takes
+    ensures decided { (f : Folds) (c : Core) (d : Commit) (w : Work) → Joint f c → c.works d.tx ≡ Some w → w.stage ≡ prepared → d ≡ commit_to c.commits d.tx w.branch d.tables → d.gives ≡ w.moved.gives → d.takes ≡ w.moved.takes
         → ((p : List ℕ) → on (links d.tables) p ≡ held_after w.moved p (on (links (tables_after [] f.rows.commits)) p)) → IsReady w.moved (kept_of f) → AreDrawn f.rows.opening (links d.tables) → IsWhole (core_stored (core_decided c d w))
         → Joint (with_decision f d) (core_decided c d w) }
     ensures finished { (f : Folds) (c : Core) (tx : ℕ) (w : Work) → Joint f c → c.works tx ≡ Some w → w.stage ≡ decided → w.branch ≡ true → Joint (with_finish f tx w.moved) (core_finished c tx w.moved) }

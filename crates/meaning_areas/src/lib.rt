@@ -6,8 +6,8 @@ mod laws;
 
 pub use laws::{
     a_restore_without_links_is_one_commit, areas_stand_where_all_compares,
-    commits_and_backups_keep_stored_parts_whole, lists_stand_for_their_core,
-    one_more_record_changes_nothing, openings_ends_and_copies_are_taken,
-    prepared_of_a_claim_is_taken, records_of_a_finish_settle, same_tables_are_equal,
-    steps_keep_lists_with_their_core,
+    commits_and_backups_keep_stored_parts_whole, commits_have_what_they_moved,
+    lists_stand_for_their_core, one_more_record_changes_nothing,
+    openings_ends_and_copies_are_taken, prepared_of_a_claim_is_taken, records_of_a_finish_settle,
+    same_tables_are_equal, steps_keep_lists_with_their_core, what_is_committed_is_apart,
 };

@@ -1,6 +1,11 @@
 -- Worked rows: what the machine answers, and that the lists with all that was written stand for the state.
-use Rattle.std.proofs.Common.{◌≡◌, ℕ, ◌+◌, ◌-◌, ◌*◌, ◌^◌, Bool, true, false, List, [], ◌∷◌, ◌++◌, codes, Option, Some, None, refl, pos, map, cond, is_some, replicate, take, length}
-use Rattle.std.specs.Option.{option_and_then}
+use Rattle.std.proofs.Common.{◌≡◌, ◌≢◌, ◌⊎◌, inl, inr, ⊎_elim, ℕ, ◌+◌, ◌/◌, ◌^◌, ◌<◌, ◌≤◌, ◌==◌, ◌||◌, Bool, true, false, List, [], ◌∷◌, ◌++◌, codes, Option, Some, None, refl, sym, ◌∙◌, ap, subst, pos, map, cond, replicate, take, arith}
+use Rattle.std.proofs.lemmas.Bool.Decides.{nat_tests}
+use Rattle.std.proofs.lemmas.List.Elements.{All-push}
+use Rattle.std.specs.Cmp.{Equal-is, unsigned_tied}
+use Rattle.std.specs.Cmp.Lexicographic.{slice_cmp}
+use Rattle.std.specs.FinMap.{nat_cmp-IsAntisymmetric, slice_cmp-IsAntisymmetric}
+use Rattle.std.specs.Ordering.{eq_by_cmp, nat_cmp}
 use Rattle.meaning_examples.specs.Maps as maps
 use Rattle.dl_base.specs.declared.answer.Answer.{Answer}
 use Rattle.dl_base.specs.declared.answer.Answer.TheVariants as answers
@@ -17,11 +22,8 @@ use Rattle.dl_base.specs.declared.column.OnUnlink.TheVariants as unlink
 use Rattle.dl_base.specs.declared.column.ReadBy.TheVariants as read
 use Rattle.dl_base.specs.declared.column.WriteBy.TheVariants as write
 use Rattle.dl_base.specs.declared.file.File.{File}
-use Rattle.dl_base.specs.declared.file.FileRow.{FileRow}
 use Rattle.dl_base.specs.declared.file.FileWhat.{FileWhat}
 use Rattle.dl_base.specs.declared.file.FileWhat.TheVariants as whats
-use Rattle.dl_base.specs.declared.file.Owner.{Owner}
-use Rattle.dl_base.specs.declared.step.Phase.TheVariants as phases
 use Rattle.dl_base.specs.declared.step.Settings.{Settings}
 use Rattle.dl_base.specs.declared.step.Step.{Step}
 use Rattle.dl_base.specs.declared.step.Step.TheVariants as steps
@@ -31,19 +33,20 @@ use Rattle.dl_base.specs.declared.value.Row.{Row}
 use Rattle.dl_base.specs.declared.value.Value.{Value}
 use Rattle.dl_base.specs.declared.value.Value.TheVariants as values
 use Rattle.meaning_examples.specs.Commits.{Commit, with_table_changes}
-use Rattle.dl_codec.specs.declared.files.FilesRecord.TheVariants as files_records
 use Rattle.dl_codec.specs.declared.links.LinksRecord.{LinksRecord}
 use Rattle.dl_codec.specs.declared.links.LinksRecord.TheVariants as links_records
 use Rattle.dl_codec.specs.declared.rows.RowsRecord.{RowsRecord}
 use Rattle.dl_codec.specs.declared.rows.RowsRecord.TheVariants as rows_records
 use Rattle.dl_base.specs.declared.answer.Why.{Why}
-use Rattle.meaning_examples.specs.Lists.{Folds, Written, in_rows, in_links, in_files, in_archive, in_backups, no_folds, folds_on, folds_step}
+use Rattle.meaning_examples.specs.Lists.{Folds, Written, in_rows, in_links, in_files, in_archive, in_backups, no_folds, folds_on}
 use Rattle.meaning_examples.specs.Copies.{Backup}
-use Rattle.meaning_examples.specs.Stands.{Stored, stored_of, txs_of}
-use Rattle.meaning_examples.specs.Apart.{has_key, has_path}
-use Rattle.meaning_examples.specs.Keyed.{Keyed}
+use Rattle.dl_codec.specs.declared.links.BranchPhase.TheVariants.{Prepared}
+use Rattle.meaning_examples.specs.Branches.{Branch, branch}
+use Rattle.meaning_examples.specs.Stands.{AreDrawn, Compares, IsStand, Stored, is_past, open_branch, open_in, stored_of, txs_of}
+use Rattle.meaning_examples.specs.Apart.{ShareNoPath, has_key, has_path}
+use Rattle.meaning_examples.specs.Keyed.{is_at}
 use Rattle.meaning_examples.specs.Settling.{Copy, Moved, settle_one}
-use Rattle.meaning_tables.specs.Tables.{Rows, Tables, new_table, table_of, with_table, with_inserted, without_table}
+use Rattle.meaning_tables.specs.Tables.{Rows, Tables, new_table, table_of, with_table, with_inserted}
 use Rattle.meaning_examples.specs.Claims.{by_evaluated, with_names}
 use Rattle.meaning_examples.specs.Machine.{step, stated, start}
 use Rattle.dl_base.specs.declared.value.LinkRow.{LinkRow}
@@ -499,25 +502,165 @@ target-order = refl
 restored-order : map tx_of (takes reversed (restored_tables reversed target 7)) ≡ 2 ∷ 1 ∷ []
 restored-order = refl
 
--- TWO BRANCHES IN DOUBT WITH ONE LINK NUMBER, on different paths and without commits: no fold refuses them, and there is nothing that
--- the other comparisons could compare. That such branches have no number in common is asked for itself.
+-- TWO BRANCHES IN DOUBT WITH ONE LINK NUMBER, on different paths and without commits: the lists stand. What such branches give and
+-- take is dropped, so nothing of it meets. On one path they stand for nothing.
 abbrev shared_take : List ℕ → LinkRow
 shared_take path = record { link = record { tx = 1; k = 1 }; path = path; options = o1 }
 
 abbrev shared_prepared : ℕ → List ℕ → Written
 shared_prepared tx path = in_links (links_records.Prepared tx [] (record { link = shared_take path; fill = false } ∷ []))
 
-abbrev shared_lists : List Written
-shared_lists = in_rows (rows_records.Opening 1) ∷ in_links (links_records.Opening 1) ∷ shared_prepared 1 (codes "/a") ∷ shared_prepared 2 (codes "/b") ∷ []
+abbrev shared_lists : List ℕ → List ℕ → List Written
+shared_lists a b = in_rows (rows_records.Opening 1) ∷ in_links (links_records.Opening 1) ∷ shared_prepared 1 a ∷ shared_prepared 2 b ∷ []
 
 abbrev shared_moved : List ℕ → Moved
 shared_moved path = record { gives = []; takes = shared_take path ∷ []; fill = false }
 
-shared-taken : is_some (folds_on (Some no_folds) shared_lists) ≡ true
+abbrev shared_folds : List ℕ → List ℕ → Folds
+shared_folds a b = record {
+  rows = record { opening = 1; commits = []; ended = [] };
+  links = record { opening = 1; table = record { list = (1, branch (shared_moved a) Prepared) ∷ (2, branch (shared_moved b) Prepared) ∷ [] }; held = maps.empty };
+  files = maps.empty;
+  copies = maps.empty;
+  backups = [];
+}
+
+shared-taken : folds_on (Some no_folds) (shared_lists (codes "/a") (codes "/b")) ≡ Some (shared_folds (codes "/a") (codes "/b"))
 shared-taken = refl
+
+one-path-taken : folds_on (Some no_folds) (shared_lists (codes "/a") (codes "/a")) ≡ Some (shared_folds (codes "/a") (codes "/a"))
+one-path-taken = refl
 
 shared-number : (has_key (shared_moved (codes "/a")) (1 ∷ 1 ∷ []) ≡ true) × (has_key (shared_moved (codes "/b")) (1 ∷ 1 ∷ []) ≡ true)
 shared-number = (refl, refl)
 
-shared-paths : (has_path (shared_moved (codes "/a")) (codes "/b") ≡ false) × (has_path (shared_moved (codes "/b")) (codes "/a") ≡ false)
-shared-paths = (refl, refl)
+false_true : false ≡ true → ⊥
+false_true e = cc
+
+none_some : {A : Type 0} (x : A) → None ≡ Some x → ⊥
+none_some x e = cc
+
+some_same : {A : Type 0} (x y : A) → Some x ≡ Some y → x ≡ y
+some_same x y e = cc
+
+same-text : (p q : List ℕ) → is_at p q ≡ true → p ≡ q
+same-text p q e = slice_cmp-IsAntisymmetric nat_cmp-IsAntisymmetric p q ((Equal-is (slice_cmp nat_cmp p q)).0 e)
+
+-- there are these two branches
+shared-are : (a b : List ℕ) (t : ℕ) (x : Branch) → maps.get (shared_folds a b).links.table t ≡ Some x → ((t ≡ 1) × (branch (shared_moved a) Prepared ≡ x)) ⊎ ((t ≡ 2) × (branch (shared_moved b) Prepared ≡ x))
+shared-are a b t x at = by (eq_by_cmp nat_cmp t 1) refl (eq_by_cmp nat_cmp t 2) refl at
+  where
+    same : (n : ℕ) → eq_by_cmp nat_cmp t n ≡ true → t ≡ n
+    same n e = of (sym (unsigned_tied t n) ∙ e)
+      where
+        of : (t == n) ≡ true → t ≡ n
+        of is = grind (arith, nat_tests)
+
+    by : (y : Bool) → eq_by_cmp nat_cmp t 1 ≡ y → (z : Bool) → eq_by_cmp nat_cmp t 2 ≡ z → cond y (Some (branch (shared_moved a) Prepared)) (cond z (Some (branch (shared_moved b) Prepared)) None) ≡ Some x
+        → ((t ≡ 1) × (branch (shared_moved a) Prepared ≡ x)) ⊎ ((t ≡ 2) × (branch (shared_moved b) Prepared ≡ x))
+    by true is_one z is_two is = inl (same 1 is_one, some_same (branch (shared_moved a) Prepared) x is)
+    by false no_one true is_two is = inr (same 2 is_two, some_same (branch (shared_moved b) Prepared) x is)
+    by false no_one false no_two is = absurd (none_some x is)
+
+module _ (a b : List ℕ) (other : is_at a b ≡ false) where
+  shared-paths : ShareNoPath (shared_moved a) (shared_moved b)
+  shared-paths p = by (is_at p a) refl
+    where
+      by : (y : Bool) → is_at p a ≡ y → (has_path (shared_moved a) p ≡ false) ⊎ (has_path (shared_moved b) p ≡ false)
+      by true here = inr (ap (λ (q : List ℕ). is_at q b || false) (same-text p a here) ∙ ap (λ y. y || false) other)
+      by false there = inl (ap (λ y. y || false) there)
+
+  shared-apart : (t u : ℕ) → t ≢ u → (m n : Moved) → open_in (shared_folds a b).links t ≡ Some m → open_in (shared_folds a b).links u ≡ Some n → ShareNoPath m n
+  shared-apart t u other_tx m n at_t at_u = by (maps.get (shared_folds a b).links.table t) refl (maps.get (shared_folds a b).links.table u) refl at_t at_u
+    where
+      turned : ShareNoPath (shared_moved b) (shared_moved a)
+      turned p = ⊎_elim (λ (e : has_path (shared_moved a) p ≡ false). inr e) (λ (e : has_path (shared_moved b) p ≡ false). inl e) (shared-paths p)
+
+      moved : (c : List ℕ) (x : Branch) (o : Moved) → branch (shared_moved c) Prepared ≡ x → open_branch (Some x) ≡ Some o → shared_moved c ≡ o
+      moved c x o is at = some_same (shared_moved c) o (ap (λ (y : Branch). open_branch (Some y)) is ∙ at)
+
+      by : (x : Option Branch) → maps.get (shared_folds a b).links.table t ≡ x → (y : Option Branch) → maps.get (shared_folds a b).links.table u ≡ y → open_branch x ≡ Some m → open_branch y ≡ Some n → ShareNoPath m n
+      by None e y f is_m is_n = absurd (none_some m is_m)
+      by (Some x) e None f is_m is_n = absurd (none_some n is_n)
+      by (Some x) e (Some y) f is_m is_n = ⊎_elim
+          (λ (first : (t ≡ 1) × (branch (shared_moved a) Prepared ≡ x)). ⊎_elim
+          (λ (second : (u ≡ 1) × (branch (shared_moved a) Prepared ≡ y)). absurd (other_tx (first.0 ∙ sym second.0)))
+          (λ (second : (u ≡ 2) × (branch (shared_moved b) Prepared ≡ y)). subst (λ (z : Moved). ShareNoPath z n) (moved a x m first.1 is_m) (subst (ShareNoPath (shared_moved a)) (moved b y n second.1 is_n) shared-paths))
+          (shared-are a b u y f))
+          (λ (first : (t ≡ 2) × (branch (shared_moved b) Prepared ≡ x)). ⊎_elim
+          (λ (second : (u ≡ 1) × (branch (shared_moved a) Prepared ≡ y)). subst (λ (z : Moved). ShareNoPath z n) (moved b x m first.1 is_m) (subst (ShareNoPath (shared_moved b)) (moved a y n second.1 is_n) turned))
+          (λ (second : (u ≡ 2) × (branch (shared_moved b) Prepared ≡ y)). absurd (other_tx (first.0 ∙ sym second.0)))
+          (shared-are a b u y f))
+          (shared-are a b t x e)
+
+  shared-late : (t : ℕ) → 1 < t / 2 ^ 32 → maps.get (shared_folds a b).links.table t ≡ None
+  shared-late t late = by (maps.get (shared_folds a b).links.table t) refl
+    where
+      first : 1 < t / 2 ^ 32 → t ≡ 1 → ⊥
+      first lt e = omega arith
+
+      second : 1 < t / 2 ^ 32 → t ≡ 2 → ⊥
+      second lt e = omega arith
+
+      by : (o : Option Branch) → maps.get (shared_folds a b).links.table t ≡ o → maps.get (shared_folds a b).links.table t ≡ None
+      by None e = e
+      by (Some x) e = absurd (⊎_elim (λ (is : (t ≡ 1) × (branch (shared_moved a) Prepared ≡ x)). first late is.0) (λ (is : (t ≡ 2) × (branch (shared_moved b) Prepared ≡ x)). second late is.0) (shared-are a b t x e))
+
+  never-less : (k : ℕ) → k < 0 → ⊥
+  never-less k lt = omega arith
+
+  shared-drawn : (c : List ℕ) → AreDrawn 1 (shared_moved c).gives × AreDrawn 1 (shared_moved c).takes
+  shared-drawn c = (none, All-push (λ (l : LinkRow). l.link.tx / 2 ^ 32 ≤ 1) [] (shared_take c) none small)
+    where
+      none : AreDrawn 1 []
+      none k d lt = absurd (never-less k lt)
+
+      small : 1 / 2 ^ 32 ≤ 1
+      small = omega arith
+
+  -- THEY STAND
+  shared-stands : IsStand (shared_folds a b) (stored_of (shared_folds a b))
+  shared-stands = record {
+    compares = record {
+      distinct = tt;
+      moved = tt;
+      branches = λ t c e. absurd (none_some c e);
+      decided = λ t x at past. absurd (⊎_elim
+          (λ (is : (t ≡ 1) × (branch (shared_moved a) Prepared ≡ x)). false_true (ap (λ (y : Branch). is_past y.phase) is.1 ∙ past))
+          (λ (is : (t ≡ 2) × (branch (shared_moved b) Prepared ≡ x)). false_true (ap (λ (y : Branch). is_past y.phase) is.1 ∙ past))
+          (shared-are a b t x at));
+      ended = λ t e. absurd (false_true e);
+      apart = shared-apart;
+      ready = λ t m some is. absurd (false_true some);
+      held = λ p. refl;
+      numbers = λ t late. (refl, shared-late t late);
+      drawn_commits = λ c is. absurd is;
+      drawn_branches = λ t x at. ⊎_elim
+          (λ (is : (t ≡ 1) × (branch (shared_moved a) Prepared ≡ x)). subst (λ (y : Branch). AreDrawn 1 y.moved.gives × AreDrawn 1 y.moved.takes) is.1 (shared-drawn a))
+          (λ (is : (t ≡ 2) × (branch (shared_moved b) Prepared ≡ x)). subst (λ (y : Branch). AreDrawn 1 y.moved.gives × AreDrawn 1 y.moved.takes) is.1 (shared-drawn b))
+          (shared-are a b t x at);
+    };
+    whole = record {
+      paths = λ c is. absurd is;
+      one_path = λ c d n x y is. absurd is;
+      files = λ p l e. absurd (none_some l e);
+      copies = λ n some. absurd (false_true some);
+      archived = λ c n l is. absurd is;
+      bytes = λ p l c f e. absurd (none_some l e);
+      backups = λ k d lt. absurd (never-less k lt);
+    };
+    is = refl;
+  }
+
+shared-row : IsStand (shared_folds (codes "/a") (codes "/b")) (stored_of (shared_folds (codes "/a") (codes "/b")))
+shared-row = shared-stands (codes "/a") (codes "/b") refl
+
+-- AND ON ONE PATH they don't
+one-path-row : Compares (shared_folds (codes "/a") (codes "/a")) → ⊥
+one-path-row compares = ⊎_elim true_false true_false (compares.apart 1 2 other (shared_moved (codes "/a")) (shared_moved (codes "/a")) refl refl (codes "/a"))
+  where
+    true_false : has_path (shared_moved (codes "/a")) (codes "/a") ≡ false → ⊥
+    true_false e = false_true (sym e)
+
+    other : ◌≢◌ {A = ℕ} 1 2
+    other e = cc

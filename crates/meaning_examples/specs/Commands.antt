@@ -1,24 +1,17 @@
--- File commands: the links that forbid them, and what they do.
-use Rattle.std.specs.Prelude.{ℕ, if◌then◌else◌, nat_lt, List, [], ◌∷◌, ◌++◌, filter, map, bytes_eq, Option, Some, None}
+-- File commands: the links that forbid them.
+use Rattle.std.specs.Prelude.{ℕ, if◌then◌else◌, List, [], ◌∷◌, ◌++◌, filter, Option, Some, None}
 use Rattle.meaning_examples.specs.Maps as maps
 use Rattle.std.specs.List.{find, flat_map}
-use Rattle.dl_base.specs.declared.answer.Answer.{Answer}
-use Rattle.dl_base.specs.declared.answer.Answer.TheVariants as answers
+use Rattle.std.specs.Option.{option_map}
 use Rattle.dl_base.specs.declared.answer.FileRefusal.{FileRefusal}
-use Rattle.dl_base.specs.declared.answer.FileRefusal.TheVariants as refusals
-use Rattle.dl_base.specs.declared.answer.Limit.TheVariants as limits
 use Rattle.dl_base.specs.declared.answer.Why.{Why}
 use Rattle.dl_base.specs.declared.answer.Why.TheVariants as whys
-use Rattle.dl_base.specs.declared.file.File.{File}
-use Rattle.dl_base.specs.declared.file.FileChange.{FileChange}
-use Rattle.dl_base.specs.declared.file.FileChange.TheVariants as changes
 use Rattle.dl_base.specs.declared.file.FileWhat.{FileWhat}
 use Rattle.dl_base.specs.declared.file.FileWhat.TheVariants as whats
 use Rattle.dl_base.specs.declared.file.Token.{Token}
+use Rattle.dl_base.specs.declared.value.LinkNo.{LinkNo}
 use Rattle.dl_base.specs.declared.value.LinkRow.{LinkRow}
-use Rattle.dl_base.specs.Limits.{most_files}
-use Rattle.meaning_examples.specs.UserFiles.{new_file}
-use Rattle.meaning_examples.specs.UserFiles.{Files}
+use Rattle.meaning_examples.specs.UserFiles.{refusal_of}
 use Rattle.dl_token.specs.Tokens.{verdict}
 use Rattle.dl_token.specs.declared.verdict.Verdict.{Verdict}
 use Rattle.dl_token.specs.declared.verdict.Verdict.TheVariants as verdicts
@@ -39,11 +32,9 @@ decided_gives e = if is_decided e.1.phase then (moved_of e.1).gives else []
 abbrev pub forbidding : State → List ℕ → List LinkRow
 forbidding s path = filter (λ l. is_at path l.path) (links (tables_of s) ++ flat_map prepared_takes (maps.entries s.txs) ++ flat_map decided_gives (maps.entries s.txs))
 
-abbrev pub forbidden : State → List ℕ → CommandKind → Why → Option FileRefusal → Option FileRefusal
-forbidden s path kind why later = elim (find (λ l. forbids_kind l.options kind) (forbidding s path)) [
-  | None ↦ later
-  | Some l ↦ Some (refusals.Forbidden path l.link why)
-]
+-- the first of them that forbids a command of this kind
+abbrev pub forbidden : State → List ℕ → CommandKind → Why → Option (LinkNo × Why)
+forbidden s path kind why = option_map (λ (l : LinkRow). (l.link, why)) (find (λ l. forbids_kind l.options kind) (forbidding s path))
 
 -- why a token is not good for a link, if it is not
 abbrev pub by_verdict : Verdict → Option Why
@@ -55,58 +46,23 @@ abbrev pub token_fault : State → List ℕ → LinkRow → Option Token → Opt
 token_fault s path l None = Some whys.NoToken
 token_fault s path l (Some t) = by_verdict (verdict s.settings.key path l.link s.moment t)
 
-abbrev pub read_forbidden : State → List ℕ → Option Token → List LinkRow → Option FileRefusal
+abbrev pub read_forbidden : State → List ℕ → Option Token → List LinkRow → Option (LinkNo × Why)
 read_forbidden s path token [] = None
 read_forbidden s path token (l ∷ ls) =
     if forbids_kind l.options kinds.Read
-    then (elim (token_fault s path l token) [ None ↦ read_forbidden s path token ls | Some why ↦ Some (refusals.Forbidden path l.link why) ])
+    then (elim (token_fault s path l token) [ None ↦ read_forbidden s path token ls | Some why ↦ Some (l.link, why) ])
     else read_forbidden s path token ls
 
--- refusals in order
+-- the link that forbids a command, if one does, and why
+abbrev pub forbids : State → FileWhat → Option (LinkNo × Why)
+forbids s (whats.Create path bytes) = None
+forbids s (whats.Write path bytes) = forbidden s path kinds.Write whys.Write
+forbids s (whats.Delete path) = forbidden s path kinds.Delete whys.Delete
+forbids s (whats.Rename path to) = forbidden s path kinds.Rename whys.Rename
+forbids s (whats.Chmod path on) = forbidden s path kinds.Chmod whys.Chmod
+forbids s (whats.Read path token) = read_forbidden s path token (forbidding s path)
+forbids s whats.List = None
 
-abbrev pub not_owner : List ℕ → List ℕ → File → Option FileRefusal → Option FileRefusal
-not_owner user path f later = if bytes_eq f.owner.name user then later else Some (refusals.NotOwner path f.owner.name)
-
-abbrev pub if_exists : List ℕ → Option File → Option FileRefusal → Option FileRefusal
-if_exists path (Some f) later = Some (refusals.Exists path)
-if_exists path None later = later
-
-abbrev pub needs_file : List ℕ → Option File → (File → Option FileRefusal) → Option FileRefusal
-needs_file path None later = Some (refusals.NoFile path)
-needs_file path (Some f) later = later f
-
+-- why a command is refused, if it is
 abbrev pub command_refusal : State → List ℕ → FileWhat → Option FileRefusal
-command_refusal s user (whats.Create path bytes) = if_exists path (maps.get s.files path) (if nat_lt (maps.len s.files) most_files then None else Some (refusals.Limit limits.Files))
-command_refusal s user (whats.Write path bytes) = needs_file path (maps.get s.files path) (λ f. forbidden s path kinds.Write whys.Write (not_owner user path f (if f.owner.writable then None else Some (refusals.ReadOnly path))))
-command_refusal s user (whats.Delete path) = needs_file path (maps.get s.files path) (λ f. forbidden s path kinds.Delete whys.Delete (not_owner user path f None))
-command_refusal s user (whats.Rename path to) = needs_file path (maps.get s.files path) (λ f. forbidden s path kinds.Rename whys.Rename (not_owner user path f (if_exists to (maps.get s.files to) None)))
-command_refusal s user (whats.Chmod path on) = needs_file path (maps.get s.files path) (λ f. forbidden s path kinds.Chmod whys.Chmod (not_owner user path f None))
-command_refusal s user (whats.Read path token) = needs_file path (maps.get s.files path) (λ f. read_forbidden s path token (forbidding s path))
-command_refusal s user whats.List = None
-
--- the changes of an accepted command, in order: the record that it writes has them, and they are its effect
-
-abbrev pub with_file : Option File → (File → List FileChange) → List FileChange
-with_file None made = []
-with_file (Some f) made = made f
-
-abbrev pub put : List ℕ → File → FileChange
-put path f = changes.Put (record { path = path; file = f })
-
-abbrev pub command_changes : Files → List ℕ → FileWhat → List FileChange
-command_changes files user (whats.Create path bytes) = put path (new_file user bytes) ∷ []
-command_changes files user (whats.Write path bytes) = with_file (maps.get files path) (λ f. put path (record f { bytes = bytes }) ∷ [])
-command_changes files user (whats.Delete path) = changes.Removed path ∷ []
-command_changes files user (whats.Rename path to) = with_file (maps.get files path) (λ f. changes.Removed path ∷ put to f ∷ [])
-command_changes files user (whats.Chmod path on) = with_file (maps.get files path) (λ f. changes.Kept path (record { name = f.owner.name; writable = on }) f.before ∷ [])
-command_changes files user (whats.Read path token) = []
-command_changes files user whats.List = []
-
-abbrev pub bytes_of : Option File → Answer
-bytes_of None = answers.Done
-bytes_of (Some f) = answers.Bytes f.bytes
-
-abbrev pub command_answer : Files → FileWhat → Answer
-command_answer files (whats.Read path token) = bytes_of (maps.get files path)
-command_answer files whats.List = answers.Files (map (λ e. record { path = e.0; file = e.1 }) (maps.entries files))
-command_answer files _ = answers.Done
+command_refusal s user what = refusal_of s.files (forbids s what) user what

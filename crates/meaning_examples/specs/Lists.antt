@@ -8,8 +8,7 @@ use Rattle.dl_codec.specs.declared.archive.ArchiveRecord.{ArchiveRecord}
 use Rattle.dl_codec.specs.declared.backups.BackupRecord.{BackupRecord}
 use Rattle.dl_codec.specs.declared.links.LinksRecord.{LinksRecord}
 use Rattle.dl_codec.specs.declared.rows.RowsRecord.{RowsRecord}
-use Rattle.meaning_examples.specs.UserFiles.{with_changes}
-use Rattle.meaning_examples.specs.UserFiles.{Files}
+use Rattle.meaning_examples.specs.UserFiles.{Files, with_changes}
 use Rattle.meaning_examples.specs.Settling.{Copies}
 use Rattle.meaning_examples.specs.Branches.{Branches, no_branches, links_step}
 use Rattle.meaning_examples.specs.Commits.{Commits, no_commits, rows_step}

@@ -23,6 +23,6 @@ abbrev pub AreDistinct : List ℕ → Type 0
 AreDistinct [] = Unit {0}
 AreDistinct (t ∷ ts) = IsNot t ts × AreDistinct ts
 
--- no two of them have anything in common
-abbrev pub AreApart : (ℕ → Option Moved) → Type 0
-AreApart open_at = (t u : ℕ) → t ≢ u → (a b : Moved) → open_at t ≡ Some a → open_at u ≡ Some b → Apart a b
+-- no two of some have anything in common
+abbrev pub AreApart : (ℕ → Option Moved) → List ℕ → Type 0
+AreApart open_at ts = (t u : ℕ) → IsIn t ts → IsIn u ts → t ≢ u → (a b : Moved) → open_at t ≡ Some a → open_at u ≡ Some b → Apart a b

@@ -27,10 +27,10 @@ use Rattle.meaning_examples.specs.Commits.{Commit, commit_of}
 use Rattle.meaning_examples.specs.Finishing.{file_copy, finish_records}
 use Rattle.meaning_examples.specs.Lists.{Folds, Written, in_rows, in_links, in_files, in_archive, in_backups, folds_on}
 use Rattle.meaning_examples.specs.Stands.{is_open, kept_of}
+use Rattle.meaning_examples.specs.UserFiles.{command_changes}
 use Rattle.meaning_examples.specs.Keyed.{is_at}
 use Rattle.meaning_examples.specs.Settling.{Moved, Kept, link_key}
 use Rattle.meaning_tables.specs.Tables.{Rows, Tables}
-use Rattle.meaning_examples.specs.Commands.{command_changes}
 use Rattle.meaning_examples.specs.Machine.{step, next_commit, restore_moved, restore_to, target_tables, drawing, is_left_in, finish_left}
 use Rattle.meaning_examples.specs.Merging.{commit_changes}
 use Rattle.meaning_examples.specs.Restoring.{without_lost, restore_changes}

@@ -87,8 +87,11 @@ read_with_a_token = refl
 read_of_an_answer : by_line given no_sessions (lines.File (asked.ReadOf (codes "ann") (codes "B"))) ≡ (refused reasons.NotBuilt, no_sessions)
 read_of_an_answer = refl
 
-written : by_line given no_sessions (asks (whats.Write (codes "/a") (codes "two"))) ≡ (refused reasons.NotBuilt, no_sessions)
+written : by_line given no_sessions (asks (whats.Write (codes "/a") (codes "two"))) ≡ (turns.Asks (record { user = codes "ann"; what = whats.Write (codes "/a") (codes "two") }), no_sessions)
 written = refl
+
+listed : by_line given no_sessions (asks whats.List) ≡ (turns.Asks (record { user = codes "ann"; what = whats.List }), no_sessions)
+listed = refl
 
 -- statements by themselves: what one makes, the next one finds
 

@@ -1,5 +1,5 @@
 -- What the lines of a script lead to, one after another.
-use Rattle.std.specs.Prelude.{◌≡◌, ℕ, ◌+◌, ◌^◌, Bool, true, false, not, if◌then◌else◌, List, [], ◌∷◌, Option, None}
+use Rattle.std.specs.Prelude.{◌≡◌, ℕ, ◌+◌, ◌^◌, Bool, true, false, not, if◌then◌else◌, List, [], ◌∷◌, Option, Some}
 use Rattle.std.specs.List.{list_any}
 use Rattle.dl_base.specs.declared.answer.Answer.TheVariants as answers
 use Rattle.dl_base.specs.declared.answer.Limit.TheVariants as limits
@@ -52,12 +52,10 @@ is_built_statement statements.Rollback = false
 is_built_statement (statements.CreateTable name columns) = not (list_any (λ d. is_controlled d.kind) columns)
 is_built_statement _ = true
 
--- create, delete, and read without a token
+-- all but a read with a token
 abbrev pub is_built_command : FileWhat → Bool
-is_built_command (whats.Create path bytes) = true
-is_built_command (whats.Delete path) = true
-is_built_command (whats.Read path None) = true
-is_built_command _ = false
+is_built_command (whats.Read path (Some token)) = false
+is_built_command _ = true
 
 -- What a line leads to.
 

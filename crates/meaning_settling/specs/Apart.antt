@@ -12,9 +12,13 @@ has_path m path = list_any (is_at path) (paths_of m)
 abbrev pub has_key : Moved → List ℕ → Bool
 has_key m key = list_any (is_at key) (keys_of m)
 
+-- no path of both
+abbrev pub ShareNoPath : Moved → Moved → Type 0
+ShareNoPath a b = (p : List ℕ) → (has_path a p ≡ false) ⊎ (has_path b p ≡ false)
+
 -- no path and no link number of both
 pub record Apart (a b : Moved) : Type 0 where
-  pub paths : (p : List ℕ) → (has_path a p ≡ false) ⊎ (has_path b p ≡ false)
+  pub paths : ShareNoPath a b
   pub keys : (n : List ℕ) → (has_key a n ≡ false) ⊎ (has_key b n ≡ false)
 
 -- each link with RECOVERY YES that is given has a copy, or a file of which one can be made

@@ -31,12 +31,12 @@ pub fn order_is_no_matter_where_they_are_apart()
 /// All open ones come to the same where a part of one of them was settled before.
 pub fn open_ones_after_a_part_of_one()
     ensures { (open_at : ℕ → Option Moved) (ts : List ℕ) (copies : List ℕ → Bool) (files held : Bool) (tx : ℕ) (m : Moved) (k later : Kept)
-        → AreApart open_at → open_at tx ≡ Some m → IsIn tx ts → IsReady m k → IsPart copies files held m k later → settled open_at ts later ≡ settled open_at ts k }
+        → AreApart open_at ts → open_at tx ≡ Some m → IsIn tx ts → IsReady m k → IsPart copies files held m k later → settled open_at ts later ≡ settled open_at ts k }
 {}
 
 /// Any open one may be settled first, and is open no more then.
 pub fn one_may_be_settled_first()
     ensures { (open_at others : ℕ → Option Moved) (ts : List ℕ) (tx : ℕ) (m : Moved) (k : Kept)
-        → AreApart open_at → open_at tx ≡ Some m → ((t : ℕ) → t ≢ tx → open_at t ≡ others t) → others tx ≡ None → IsIn tx ts → AreDistinct ts
+        → AreApart open_at ts → open_at tx ≡ Some m → ((t : ℕ) → t ≢ tx → open_at t ≡ others t) → others tx ≡ None → IsIn tx ts → AreDistinct ts
         → settled open_at ts k ≡ settled others ts (settle_one m k) }
 {}

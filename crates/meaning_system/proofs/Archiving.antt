@@ -23,7 +23,8 @@ use Rattle.meaning_areas.proofs.Archived.{joint-archived}
 use Rattle.meaning_areas.proofs.Equal.{number-same}
 use Rattle.meaning_areas.proofs.Tables.{some_same}
 use Rattle.meaning_areas.proofs.Taking.{copy-taken}
-use Rattle.meaning_areas.proofs.Untouched.{decided-is, open-off}
+use Rattle.meaning_areas.proofs.OwnNumbers.{decided-is, decided-of, key-linked, one-number}
+use Rattle.meaning_areas.proofs.Untouched.{open-off}
 use Rattle.meaning_merge.specs.Touching.{In}
 use Rattle.meaning_settling.specs.Apart.{has_key, has_path}
 use Rattle.meaning_settling.specs.Keyed.{is_at}
@@ -33,7 +34,7 @@ use Rattle.meaning_tables.specs.Fits.{differ, fits, rows_fit}
 use Rattle.meaning_tables.specs.Links.{links, same_number}
 use Rattle.meaning_tables.specs.Tables.{Tables}
 use Rattle.meaning_system.specs.CoreOf.{claimed_by, core_of, stage_of, work_at, work_of}
-use Rattle.meaning_system.specs.Following.{Follows, HaveOnePath, Leads}
+use Rattle.meaning_system.specs.Following.{Follows, Leads}
 use Rattle.meaning_system.specs.Machine.{archive_file, archive_on, decided_takes, has_link, pending, step, with_copy}
 use Rattle.meaning_system.specs.State.{State, Txn, differs, is_active, is_decided, moved_of, tables_of}
 use Rattle.meaning_system.specs.Writes.{archive_list, copy_list, is_refused, when, writes}
@@ -155,7 +156,7 @@ decided-txn s q m e =
         (t, at, ap is_decided phase, sym (ap (λ (p : Phase). claimed_by (is_active p && differs t.seen s.links_opening) (moved_of t)) phase) ∙ ap (λ (x : Work). x.moved) same ∙ moved)
 
 -- ARCHIVE
-module _ (f : Folds) (s : State) (follows : Follows f s) (fit : fits (tables_of s) ≡ true) (paths : HaveOnePath s) (n : LinkNo) (l : LinkRow)
+module _ (f : Folds) (s : State) (follows : Follows f s) (fit : fits (tables_of s) ≡ true) (n : LinkNo) (l : LinkRow)
     (at : find (λ (x : LinkRow). is_at (link_key n) (link_key x.link)) (pending s) ≡ Some l) where
   abbrev is_pending : LinkRow → Bool
   is_pending x = x.options.recovery && is_none (maps.get s.copies (link_key x.link)) && not (has_link x.link (flat_map decided_takes (maps.entries s.txs)))
@@ -231,8 +232,11 @@ module _ (f : Folds) (s : State) (follows : Follows f s) (fit : fits (tables_of 
 
       by : (b : Bool) → has_key m (link_key l.link) ≡ b → has_key m (link_key l.link) ≡ false
       by true has_it =
-          let t = decided-txn s q m e in
-          absurd (false_true (sym no-path ∙ ap (λ (y : Moved). has_path y l.path) (sym t.3) ∙ paths q t.0 l t.1 t.2 on-path (ap (λ (y : Moved). has_key y (link_key l.link)) t.3 ∙ has_it)))
+          let d = decided-of f (core_of s) follows.joint q m e in
+          let it = key-linked f.rows.commits follows.joint.moved m d.0 d.1 (link_key l.link) has_it in
+          let same : it.link ≡ l = one-number f (core_of s) follows.joint it.commit last.0 (link_key l.link) it.link l it.among
+          (subst (λ (cs : List Commit). IsCommit last.0 cs) (sym follows.joint.commits) last.1) it.at (ap (λ (x : Tables). numbered (links x) (link_key l.link)) last.2 ∙ by-number) in
+          absurd (false_true (sym no-path ∙ ap (λ (x : LinkRow). has_path m x.path) (sym same) ∙ it.path))
       by false lacks = lacks
 
   archives : (file : File) → maps.get s.files l.path ≡ Some file → Leads f (in_archive (archive_records.Copy (file_copy l file)) ∷ []) (with_copy s n file)
@@ -250,10 +254,10 @@ module _ (f : Folds) (s : State) (follows : Follows f s) (fit : fits (tables_of 
   by-file None there = stays f s follows
   by-file (Some file) there = archives file there
 
-pub leads-archive : (f : Folds) (s : State) (n : LinkNo) → Follows f s → fits (tables_of s) ≡ true → HaveOnePath s → Leads f (writes s (steps.Archive n)) (step s (steps.Archive n)).1
+pub leads-archive : (f : Folds) (s : State) (n : LinkNo) → Follows f s → fits (tables_of s) ≡ true → Leads f (writes s (steps.Archive n)) (step s (steps.Archive n)).1
 unfolding step writes
-leads-archive f s n follows fit paths = by (find (λ (x : LinkRow). is_at (link_key n) (link_key x.link)) (pending s)) refl
+leads-archive f s n follows fit = by (find (λ (x : LinkRow). is_at (link_key n) (link_key x.link)) (pending s)) refl
   where
     by : (o : Option LinkRow) → find (λ (x : LinkRow). is_at (link_key n) (link_key x.link)) (pending s) ≡ o → Leads f (when (not (is_refused (archive_on s n o).0)) (archive_list s o)) (archive_on s n o).1
     by None e = stays f s follows
-    by (Some l) e = by-file f s follows fit paths n l e (maps.get s.files l.path) refl
+    by (Some l) e = by-file f s follows fit n l e (maps.get s.files l.path) refl

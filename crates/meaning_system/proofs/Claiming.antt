@@ -16,9 +16,9 @@ use Rattle.meaning_areas.specs.Core.{Work, with_work}
 use Rattle.meaning_areas.specs.Joint.{Joint}
 use Rattle.meaning_areas.specs.Lists.{Folds}
 use Rattle.meaning_areas.specs.Moving.{core_with}
-use Rattle.meaning_areas.proofs.Steps.{apart-none, joint-claimed}
+use Rattle.meaning_areas.proofs.Steps.{joint-claimed, share-none}
 use Rattle.meaning_areas.proofs.Tables.{some_same, test-other}
-use Rattle.meaning_settling.specs.Apart.{Apart, has_key, has_path}
+use Rattle.meaning_settling.specs.Apart.{Apart, ShareNoPath, has_key, has_path}
 use Rattle.meaning_settling.specs.Keyed.{is_at}
 use Rattle.meaning_settling.specs.Settling.{Moved, on}
 use Rattle.meaning_settling.proofs.KeyedLaws.{any-append, either, is_at-same}
@@ -96,8 +96,8 @@ gives-free s tx (g ∷ gs) p none has = let one = or-none (busy_on s tx g.path) 
     by true here any free rest = ap (busy_on s tx) (is_at-same p g.path here) ∙ free
     by false here any free rest = rest any
 
--- AN ACCEPTED CLAIM is apart from all other transactions, if its numbers are its own
-module _ (s : State) (tx : ℕ) (t : Txn) (accepted : claim_refusal s tx t ≡ None) (own : HasOwnNumbers s tx t) where
+-- AN ACCEPTED CLAIM is on other paths than all other transactions, and so apart from them if its numbers are its own
+module _ (s : State) (tx : ℕ) (t : Txn) (accepted : claim_refusal s tx t ≡ None) where
   paths-free : (p : List ℕ) → has_path (moved_of t) p ≡ true → busy_on s tx p ≡ None
   paths-free p has =
       let one = or-none (doomed s t) _ accepted in
@@ -111,14 +111,14 @@ module _ (s : State) (tx : ℕ) (t : Txn) (accepted : claim_refusal s tx t ≡ N
       by true given any takes gives = gives-free s tx (moved_of t).gives p gives given
       by false given any takes gives = takes-free s tx (moved_of t).gives [] (moved_of t).takes p takes any
 
-  pub claim-apart : (u : ℕ) (v : Txn) → u ≢ tx → maps.get s.txs u ≡ Some v → Apart (moved_of t) (work_of s v).moved
-  claim-apart u v other at = record {
-    paths = λ p. ⊎_elim
-        (λ (has : has_path (moved_of t) p ≡ true). inr (held-by-none s tx p u v (paths-free p has) other at))
-        (λ (lacks : has_path (moved_of t) p ≡ false). inl lacks)
-        (either (has_path (moved_of t) p));
-    keys = λ n. by n (is_doomed s v) refl;
-  }
+  claim-paths : (u : ℕ) (v : Txn) → u ≢ tx → maps.get s.txs u ≡ Some v → ShareNoPath (moved_of t) (work_of s v).moved
+  claim-paths u v other at p = ⊎_elim
+      (λ (has : has_path (moved_of t) p ≡ true). inr (held-by-none s tx p u v (paths-free p has) other at))
+      (λ (lacks : has_path (moved_of t) p ≡ false). inl lacks)
+      (either (has_path (moved_of t) p))
+
+  pub claim-apart : HasOwnNumbers s tx t → (u : ℕ) (v : Txn) → u ≢ tx → maps.get s.txs u ≡ Some v → Apart (moved_of t) (work_of s v).moved
+  claim-apart own u v other at = record { paths = claim-paths u v other at; keys = λ n. by n (is_doomed s v) refl }
     where
       by : (n : List ℕ) (d : Bool) → is_doomed s v ≡ d → (has_key (moved_of t) n ≡ false) ⊎ (has_key (claimed_by d (moved_of v)) n ≡ false)
       by n true doomed_too = inr refl
@@ -138,55 +138,53 @@ module _ (f : Folds) (s : State) (follows : Follows f s) (tx : ℕ) (t : Txn) (a
       record { later = f; taken = refl; follows = record { joint = subst (Joint f) (sym (phase-core s tx later)) (subst P (sym same) claims); uncut = follows.uncut } }
 
   -- a claim that is accepted
-  other-claim : (later : Txn) → later.phase ≡ phases.Active → ((u : ℕ) (v : Txn) → u ≢ tx → maps.get s.txs u ≡ Some v → Apart (moved_of later) (work_of s v).moved) → Leads f [] (with_txn s tx later)
+  other-claim : (later : Txn) → later.phase ≡ phases.Active → ((u : ℕ) (v : Txn) → u ≢ tx → maps.get s.txs u ≡ Some v → ShareNoPath (moved_of later) (work_of s v).moved) → Leads f [] (with_txn s tx later)
   other-claim later phase apart =
       let claims : Joint f (core_with (core_of s) (with_work (core_of s).works tx (Some (work_of s later))) (number_of s)) =
       joint-claimed f (core_of s) follows.joint tx (work_of s t) here (work_of s later) (ap stage_of is) (ap stage_of phase) (λ u v other there. by u v other (maps.get s.txs u) refl there) (no-links (work_of s later).moved) in
       record { later = f; taken = refl; follows = record { joint = subst (Joint f) (sym (phase-core s tx later)) claims; uncut = follows.uncut } }
     where
-      if_doomed : (d : Bool) (b : Moved) → Apart (moved_of later) b → Apart (claimed_by d (moved_of later)) b
-      if_doomed true b two = apart-none b
+      if_doomed : (d : Bool) (b : Moved) → ShareNoPath (moved_of later) b → ShareNoPath (claimed_by d (moved_of later)) b
+      if_doomed true b two = share-none b
       if_doomed false b two = two
 
-      by : (u : ℕ) (v : Work) → u ≢ tx → (o : Option Txn) → maps.get s.txs u ≡ o → work_at s o ≡ Some v → Apart (work_of s later).moved v.moved
+      by : (u : ℕ) (v : Work) → u ≢ tx → (o : Option Txn) → maps.get s.txs u ≡ o → work_at s o ≡ Some v → ShareNoPath (work_of s later).moved v.moved
       by u v other None there found = absurd cc
       by u v other (Some x) there found =
-          let P : Work → Type 0 = λ w. Apart (work_of s later).moved w.moved in
+          let P : Work → Type 0 = λ w. ShareNoPath (work_of s later).moved w.moved in
           subst P (some_same (work_of s x) v found) (if_doomed (is_doomed s later) (work_of s x).moved (apart u x other there))
 
   -- what is evaluated, of the transaction with more names
   abbrev named_as : List (List ℕ) → Txn
   named_as names = record t { named = names }
 
-  states : (names : List (List ℕ)) (e : Evaluated) → HasOwnNumbers s tx (by_evaluated s tx (record t { named = names }) e).1 → Leads f [] (with_txn s tx (by_evaluated s tx (record t { named = names }) e).1)
+  states : (names : List (List ℕ)) (e : Evaluated) → Leads f [] (with_txn s tx (by_evaluated s tx (record t { named = names }) e).1)
   states names e = by e.refused (same_moved (moved_of t) (moved_of (made_by (named_as names) e))) refl
     where
-      claim : (o : Option Refusal) → claim_refusal s tx (made_by (named_as names) e) ≡ o → HasOwnNumbers s tx (claimed s e.answer (named_as names) (made_by (named_as names) e) o).1 → Leads f [] (with_txn s tx (claimed s e.answer (named_as names) (made_by (named_as names) e) o).1)
-      claim (Some why) refused own = same-claim (named_as names) refl
-      claim None accepted own = other-claim (claimed s e.answer (named_as names) (made_by (named_as names) e) None).1 is (claim-apart s tx (made_by (named_as names) e) accepted own)
+      claim : (o : Option Refusal) → claim_refusal s tx (made_by (named_as names) e) ≡ o → Leads f [] (with_txn s tx (claimed s e.answer (named_as names) (made_by (named_as names) e) o).1)
+      claim (Some why) refused = same-claim (named_as names) refl
+      claim None accepted = other-claim (claimed s e.answer (named_as names) (made_by (named_as names) e) None).1 is (claim-paths s tx (made_by (named_as names) e) accepted)
 
-      by : (r m : Bool) → same_moved (moved_of t) (moved_of (made_by (named_as names) e)) ≡ m → HasOwnNumbers s tx (cond r (e.answer, (named_as names)) (cond m (e.answer, (made_by (named_as names) e)) (claimed s e.answer (named_as names) (made_by (named_as names) e) (claim_refusal s tx (made_by (named_as names) e))))).1
+      by : (r m : Bool) → same_moved (moved_of t) (moved_of (made_by (named_as names) e)) ≡ m
           → Leads f [] (with_txn s tx (cond r (e.answer, (named_as names)) (cond m (e.answer, (made_by (named_as names) e)) (claimed s e.answer (named_as names) (made_by (named_as names) e) (claim_refusal s tx (made_by (named_as names) e))))).1)
-      by true m same own = same-claim (named_as names) refl
-      by false true same own = same-claim (made_by (named_as names) e) (ap (λ (m : Moved). work_by t.phase (claimed_by (is_doomed s t) m)) (moved-same t (made_by (named_as names) e) same))
-      by false false same own = claim (claim_refusal s tx (made_by (named_as names) e)) refl own
+      by true m same = same-claim (named_as names) refl
+      by false true same = same-claim (made_by (named_as names) e) (ap (λ (m : Moved). work_by t.phase (claimed_by (is_doomed s t) m)) (moved-same t (made_by (named_as names) e) same))
+      by false false same = claim (claim_refusal s tx (made_by (named_as names) e)) refl
 
-  on-statement : (session : ℕ) (stmt : Stmt) → HasOwnNumbers s tx (statement s tx t stmt).1 → Leads f [] (with_txn s tx (statement s tx t stmt).1)
-  on-statement session stmt own = states (with_names t.named (named_by stmt)) (evaluated t.copy stmt (context_of s tx) t.next) own
+  on-statement : (session : ℕ) (stmt : Stmt) → Leads f [] (with_txn s tx (statement s tx t stmt).1)
+  on-statement session stmt = states (with_names t.named (named_by stmt)) (evaluated t.copy stmt (context_of s tx) t.next)
 
--- each transaction has its own numbers behind the statement
-on-phase : (f : Folds) (s : State) (follows : Follows f s) (tx : ℕ) (t : Txn) → maps.get s.txs tx ≡ Some t → (session : ℕ) (stmt : Stmt) → HasOwnNumbers s tx (statement s tx t stmt).1 → (p : Phase) → t.phase ≡ p → Leads f [] (on_txn s (steps.Statement session stmt) tx t p).1
-on-phase f s follows tx t at session stmt own phases.Active is = on-statement f s follows tx t at is session stmt own
-on-phase f s follows tx t at session stmt own phases.Prepared is = stays f s follows
-on-phase f s follows tx t at session stmt own phases.Decided is = stays f s follows
-on-phase f s follows tx t at session stmt own phases.Finished is = stays f s follows
-on-phase f s follows tx t at session stmt own phases.Dropped is = stays f s follows
+on-phase : (f : Folds) (s : State) (follows : Follows f s) (tx : ℕ) (t : Txn) → maps.get s.txs tx ≡ Some t → (session : ℕ) (stmt : Stmt) → (p : Phase) → t.phase ≡ p → Leads f [] (on_txn s (steps.Statement session stmt) tx t p).1
+on-phase f s follows tx t at session stmt phases.Active is = on-statement f s follows tx t at is session stmt
+on-phase f s follows tx t at session stmt phases.Prepared is = stays f s follows
+on-phase f s follows tx t at session stmt phases.Decided is = stays f s follows
+on-phase f s follows tx t at session stmt phases.Finished is = stays f s follows
+on-phase f s follows tx t at session stmt phases.Dropped is = stays f s follows
 
-pub leads-statement : (f : Folds) (s : State) (session : ℕ) (stmt : Stmt) → Follows f s → ((tx : ℕ) (t : Txn) → maps.get s.txs tx ≡ Some t → HasOwnNumbers s tx (statement s tx t stmt).1)
-    → Leads f (writes s (steps.Statement session stmt)) (step s (steps.Statement session stmt)).1
+pub leads-statement : (f : Folds) (s : State) (session : ℕ) (stmt : Stmt) → Follows f s → Leads f (writes s (steps.Statement session stmt)) (step s (steps.Statement session stmt)).1
 unfolding step writes
-leads-statement f s session stmt follows own = by (txn_of s session) refl
+leads-statement f s session stmt follows = by (txn_of s session) refl
   where
     by : (o : Option (ℕ × Txn)) → txn_of s session ≡ o → Leads f [] (on_session s (steps.Statement session stmt) o).1
     by None e = stays f s follows
-    by (Some x) e = let found = txn-there s (maps.get s.sessions session) x e in on-phase f s follows x.0 x.1 found.0 session stmt (own x.0 x.1 found.0) x.1.phase refl
+    by (Some x) e = let found = txn-there s (maps.get s.sessions session) x e in on-phase f s follows x.0 x.1 found.0 session stmt x.1.phase refl

@@ -5,6 +5,7 @@ use Rattle.std.specs.Cmp.Lexicographic.{nat_list_cmp_total}
 use Rattle.std.specs.FinMap as maps
 use Rattle.std.specs.FinMap.{find as find_key, get-entries, get-insert, get-remove}
 use Rattle.std.specs.List.{find, flat_map}
+use Rattle.std.specs.Option.{option_map}
 use Rattle.std.specs.Ordering.{nat_cmp}
 use Rattle.dl_base.specs.declared.answer.Answer.{Answer}
 use Rattle.dl_base.specs.declared.answer.FileRefusal.{FileRefusal}
@@ -27,15 +28,15 @@ use Rattle.dl_base.specs.declared.step.Step.TheVariants as steps
 use Rattle.dl_base.specs.declared.value.LinkRow.{LinkRow}
 use Rattle.dl_codec.specs.declared.files.FilesRecord.TheVariants as files_records
 use Rattle.meaning_areas.specs.Core.{core_stored}
-use Rattle.meaning_areas.specs.FilesArea.{with_changes}
 use Rattle.meaning_areas.specs.Joint.{Joint}
 use Rattle.meaning_areas.specs.Lists.{Folds, in_files, with_files}
 use Rattle.meaning_areas.specs.Moving.{core_kept_as, with_kept}
 use Rattle.meaning_areas.proofs.Equal.{number-same}
+use Rattle.meaning_areas.proofs.FilesLaws.{file-deleted, file-owned, file-renamed, file-there, file-written}
 use Rattle.meaning_areas.proofs.Refiled.{joint-filed}
 use Rattle.meaning_areas.proofs.Tables.{not_none, some_same}
-use Rattle.meaning_files.specs.Commands.{new_file}
-use Rattle.meaning_files.specs.Files.{Files}
+use Rattle.meaning_files.specs.Commands.{bytes_of, command_answer, command_changes, if_exists, if_forbidden, needs_file, new_file, not_owner}
+use Rattle.meaning_files.specs.Files.{Files, with_changes}
 use Rattle.meaning_merge.specs.Touching.{In}
 use Rattle.meaning_settling.specs.Keyed.{is_at}
 use Rattle.meaning_settling.specs.Settling.{Copy, Moved, link_key, numbered, on}
@@ -46,7 +47,7 @@ use Rattle.meaning_tables.specs.OptionRows.{forbids_kind, is_blocked, is_option_
 use Rattle.meaning_tables.specs.Tables.{Tables}
 use Rattle.meaning_tables.specs.declared.option_rows.CommandKind.{CommandKind}
 use Rattle.meaning_tables.specs.declared.option_rows.CommandKind.TheVariants as kinds
-use Rattle.meaning_system.specs.Commands.{bytes_of, command_answer, command_changes, command_refusal, decided_gives, forbidden, forbidding, if_exists, needs_file, not_owner, prepared_takes}
+use Rattle.meaning_system.specs.Commands.{command_refusal, decided_gives, forbidden, forbidding, prepared_takes}
 use Rattle.meaning_system.specs.CoreOf.{core_of}
 use Rattle.meaning_system.specs.Following.{Follows, HaveRows, Leads}
 use Rattle.meaning_system.specs.Machine.{by_refusal, step}
@@ -54,7 +55,7 @@ use Rattle.meaning_system.specs.State.{State, Txn, is_decided, moved_of, tables_
 use Rattle.meaning_system.specs.Writes.{file_writes, is_refused, when, writes}
 use Rattle.meaning_system.proofs.Archiving.{committed-last, decided-txn, found, one-only, some-found}
 use Rattle.meaning_system.proofs.Leading.{stays}
-use Rattle.meaning_system.proofs.Records.{command-taken, file-deleted, file-owned, file-renamed, file-there, file-written}
+use Rattle.meaning_system.proofs.Records.{command-taken}
 use Rattle.meaning_system.proofs.Stepping.{same-self}
 
 false_true : false ≡ true → ⊥
@@ -132,10 +133,10 @@ recovery-blocks o row r = rows-block o.read o.write o.unlink (ap (λ b. is_row o
 
 -- what an accepted command passed
 
-forbids-none : (s : State) (path : List ℕ) (kind : CommandKind) (why : Why) (later : Option FileRefusal) → forbidden s path kind why later ≡ None → (find (λ l. forbids_kind l.options kind) (forbidding s path) ≡ None) × (later ≡ None)
+forbids-none : (s : State) (path : List ℕ) (kind : CommandKind) (why : Why) (later : Option FileRefusal) → if_forbidden path (forbidden s path kind why) later ≡ None → (find (λ l. forbids_kind l.options kind) (forbidding s path) ≡ None) × (later ≡ None)
 forbids-none s path kind why later e = by (find (λ (l : LinkRow). forbids_kind l.options kind) (forbidding s path)) refl e
   where
-    by : (o : Option LinkRow) → find (λ (l : LinkRow). forbids_kind l.options kind) (forbidding s path) ≡ o → ◌≡◌ {A = Option FileRefusal} (elim o [ None ↦ later | Some l ↦ Some (refusals.Forbidden path l.link why) ]) None
+    by : (o : Option LinkRow) → find (λ (l : LinkRow). forbids_kind l.options kind) (forbidding s path) ≡ o → if_forbidden path (option_map (λ (l : LinkRow). (l.link, why)) o) later ≡ None
         → (find (λ (l : LinkRow). forbids_kind l.options kind) (forbidding s path) ≡ None) × (later ≡ None)
     by None at is = (at, is)
     by (Some l) at is = absurd cc

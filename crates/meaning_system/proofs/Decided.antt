@@ -7,19 +7,20 @@ use Rattle.dl_base.specs.declared.step.Phase.{Phase}
 use Rattle.dl_base.specs.declared.step.Phase.TheVariants as phases
 use Rattle.dl_base.specs.declared.step.Step.TheVariants as steps
 use Rattle.dl_codec.specs.declared.rows.RowsRecord.TheVariants as rows_records
-use Rattle.meaning_areas.specs.Commits.{Commit, commit_of, commit_to, fitting, rows_step, tables_after, with_commit, with_table_changes}
+use Rattle.meaning_areas.specs.Commits.{Commit, HaveMoved, commit_of, commit_to, fitting, rows_step, tables_after, with_commit, with_table_changes}
 use Rattle.meaning_areas.specs.Core.{Work, core_stored, decided_in, decided_work, is_decided}
 use Rattle.meaning_areas.specs.Lists.{Folds, in_rows, with_rows}
 use Rattle.meaning_areas.specs.Moving.{core_decided, with_decision}
 use Rattle.meaning_areas.specs.Same.{same_tables}
-use Rattle.meaning_areas.specs.Stands.{AreDrawn, IsWhole, kept_of, stored_with, txs_of}
-use Rattle.meaning_areas.proofs.Deciding.{settled-decided}
+use Rattle.meaning_areas.specs.Stands.{AreDrawn, IsCommit, IsWhole, kept_of, stored_with, txs_of}
+use Rattle.meaning_areas.proofs.Deciding.{moved-push, settled-decided}
 use Rattle.meaning_areas.proofs.Equal.{tables-decide}
-use Rattle.meaning_areas.proofs.Tables.{some_same, test-same}
-use Rattle.meaning_areas.proofs.Whole.{whole-decided}
+use Rattle.meaning_areas.proofs.OwnNumbers.{apart-by-paths, decided-of}
+use Rattle.meaning_areas.proofs.Tables.{one-link-push, some_same, test-same}
+use Rattle.meaning_areas.proofs.Whole.{in-last, in-more, whole-decided}
 use Rattle.meaning_files.specs.Files.{Files}
 use Rattle.meaning_merge.specs.Merging.{commit_changes}
-use Rattle.meaning_settling.specs.Apart.{Apart, IsReady}
+use Rattle.meaning_settling.specs.Apart.{Apart, IsReady, ShareNoPath}
 use Rattle.meaning_settling.specs.Settled.{settle_open, settled}
 use Rattle.meaning_settling.specs.Settling.{Copies, Kept, Moved, held_after, on, settle_one}
 use Rattle.meaning_settling.proofs.PartLaws.{ready-passes}
@@ -61,8 +62,8 @@ module _ (f : Folds) (s : State) (follows : Follows f s) (tx : ℕ) (t : Txn) (a
   there : (core_of s).works tx ≡ Some (work_by phases.Prepared (moved_of t))
   there = works-are f s follows tx t at (work_by phases.Prepared (moved_of t)) (prepared-work f s follows tx t at is)
 
-  -- nobody that is decided has anything of it
-  alone : (q : ℕ) (a : Moved) → decided_in (core_of s) q ≡ Some a → Apart a (moved_of t)
+  -- nobody that is decided is on a path of it
+  alone : (q : ℕ) (a : Moved) → decided_in (core_of s) q ≡ Some a → ShareNoPath a (moved_of t)
   alone q a e = by ((core_of s).works q) refl e
     where
       chosen : (w : Work) (b : Bool) → cond b (Some w.moved) None ≡ Some a → w.moved ≡ a
@@ -75,10 +76,10 @@ module _ (f : Folds) (s : State) (follows : Follows f s) (tx : ℕ) (t : Txn) (a
           no : None ≡ Some a → ⊥
           no x = cc
 
-      by : (o : Option Work) → (core_of s).works q ≡ o → decided_work o ≡ Some a → Apart a (moved_of t)
+      by : (o : Option Work) → (core_of s).works q ≡ o → decided_work o ≡ Some a → ShareNoPath a (moved_of t)
       by None here d = absurd cc
       by (Some w) here d =
-          let P : Moved → Type 0 = λ m. Apart m (moved_of t) in
+          let P : Moved → Type 0 = λ m. ShareNoPath m (moved_of t) in
           subst P (chosen w (is_decided w.stage && w.branch) d) (follows.joint.apart q tx (decided_too w here d) w (work_by phases.Prepared (moved_of t)) here there)
 
   module _ (merged : IsMerged s tx t) where
@@ -88,6 +89,16 @@ module _ (f : Folds) (s : State) (follows : Follows f s) (tx : ℕ) (t : Txn) (a
     abbrev k : Kept
     k = settled (decided_in (core_of s)) (txs_of s.commits) (kept_in s)
 
+    -- what it gives and takes are links of commits, with its own
+    apart : (q : ℕ) (a : Moved) → decided_in (core_of s) q ≡ Some a → Apart a (moved_of t)
+    apart q a e =
+        let it = decided-of f (core_of s) follows.joint q a e in
+        apart-by-paths (s.commits ++ commit_by s tx t ∷ []) (moved-push [] (commit_by s tx t) s.commits (subst (λ (cs : List Commit). HaveMoved [] cs) follows.joint.commits follows.joint.moved) refl refl)
+        (one-link-push s.commits (commit_by s tx t) follows.joint.whole.one_path merged.merges.one_path) a (moved_of t) it.0 (commit_by s tx t)
+        (record { among = in-more it.0 (commit_by s tx t) s.commits (subst (λ (cs : List Commit). IsCommit it.0 cs) follows.joint.commits it.1.among); gives = it.1.gives; takes = it.1.takes })
+        (record { among = in-last (commit_by s tx t) s.commits; gives = sym merged.given; takes = sym merged.taken })
+        (alone q a e)
+
     whole-behind : IsWhole (core_stored (core_decided (core_of s) (commit_by s tx t) (work_by phases.Prepared (moved_of t))))
     whole-behind =
         let P : List Commit → Type 0 = λ cs. settled (decided_in (core_decided (core_of s) (commit_by s tx t) (work_by phases.Prepared (moved_of t)))) (txs_of (cs ++ commit_by s tx t ∷ [])) (kept_in s)
@@ -95,7 +106,7 @@ module _ (f : Folds) (s : State) (follows : Follows f s) (tx : ℕ) (t : Txn) (a
         let one = subst P follows.joint.commits (settled-decided f (core_of s) follows.joint (commit_by s tx t) (work_by phases.Prepared (moved_of t)) there refl refl merged.given merged.taken (kept_in s)) in
         subst IsWhole (ap (stored_with (s.commits ++ commit_by s tx t ∷ []) s.backups s.rows_opening s.links_opening) (sym (one ∙ settles (has_links (moved_of t)) refl)))
         (whole-decided s.commits s.backups s.rows_opening s.links_opening (settled (decided_in (core_of s)) (txs_of s.commits) (kept_in s)) (moved_of t) (commit_by s tx t) follows.joint.whole merged.merges
-        (ready-settled (moved_of t) (decided_in (core_of s)) (txs_of s.commits) (kept_in s) alone merged.ready))
+        (ready-settled (moved_of t) (decided_in (core_of s)) (txs_of s.commits) (kept_in s) apart merged.ready))
       where
         settles : (b : Bool) → has_links (moved_of t) ≡ b → settle_open (cond b (Some (moved_of t)) None) (settled (decided_in (core_of s)) (txs_of s.commits) (kept_in s)) ≡ settle_one (moved_of t) (settled (decided_in (core_of s)) (txs_of s.commits) (kept_in s))
         settles true has = refl

@@ -21,7 +21,7 @@ use Rattle.meaning_areas.proofs.Tables.{some_same}
 use Rattle.meaning_files.specs.Files.{Files}
 use Rattle.meaning_merge.specs.Restoring.{in_the_way}
 use Rattle.meaning_merge.specs.Touching.{In}
-use Rattle.meaning_settling.specs.Apart.{Apart, has_path}
+use Rattle.meaning_settling.specs.Apart.{ShareNoPath, has_path}
 use Rattle.meaning_settling.specs.Keyed.{is_at}
 use Rattle.meaning_settling.specs.Settling.{Moved, copies_after}
 use Rattle.meaning_settling.proofs.KeyedLaws.{any-append, is_at-self, or-left, or-right}
@@ -94,13 +94,13 @@ module _ (f : Folds) (s : State) (follows : Follows f s) (have : HaveFiles s) (t
   off q u there waits l among = ⊎_elim
       (λ (e : tx ≡ q). never (sym (ap is_prepared (ap (λ (x : Txn). x.phase) (some_same u t (sym there ∙ ap (maps.get s.txs) (sym e) ∙ at)) ∙ is)) ∙ waits))
       (λ (other : tx ≢ q).
-      let apart : Apart (moved_of t) (moved_of u) = follows.joint.apart tx q other (work_by phases.Decided (moved_of t)) (work_by phases.Prepared (moved_of u))
+      let apart : ShareNoPath (moved_of t) (moved_of u) = follows.joint.apart tx q other (work_by phases.Decided (moved_of t)) (work_by phases.Prepared (moved_of u))
       (works-are f s follows tx t at (work_by phases.Decided (moved_of t)) (decided-work f s follows tx t at is))
       (works-are f s follows q u there (work_by phases.Prepared (moved_of u)) (prepared-work f s follows q u there (is-prepared u.phase waits))) in
       ⊎_elim
       (λ (lacks : has_path (moved_of t) l.path ≡ false). lacks)
       (λ (lacks : has_path (moved_of u) l.path ≡ false). never (sym lacks ∙ takes-path (moved_of u) l among))
-      (apart.paths l.path))
+      (apart l.path))
       (cases_eq tx q)
 
   pub settled-has : (later : State) → later.files ≡ (settled_by s t).files → ((q : ℕ) (u : Txn) → maps.get later.txs q ≡ Some u → maps.get s.txs q ≡ Some u) → HaveFiles later

@@ -6,7 +6,6 @@ use Rattle.std.specs.Cmp.Lexicographic.{pointwise, pointwise_decides}
 use Rattle.std.specs.FinMap as maps
 use Rattle.std.specs.FinMap.{get-empty, get-remove, get-retain_keys, nat_cmp-IsAntisymmetric}
 use Rattle.std.specs.List.{find}
-use Rattle.std.specs.Option.{unwrap_or}
 use Rattle.std.specs.Ordering.{nat_cmp}
 use Rattle.std.specs.declared.cmp.Ordering.TheVariants.{Equal}
 use Rattle.dl_base.specs.declared.answer.Answer.TheVariants as answers
@@ -25,11 +24,11 @@ use Rattle.dl_base.specs.declared.value.LinkNo.{LinkNo}
 use Rattle.dl_base.specs.declared.value.LinkRow.{LinkRow}
 use Rattle.meaning_areas.specs.Commits.{Commit}
 use Rattle.meaning_areas.specs.Copies.{Backup}
-use Rattle.meaning_areas.specs.FilesArea.{with_changes}
 use Rattle.meaning_areas.specs.Same.{same_link, same_tables}
 use Rattle.meaning_areas.specs.Stands.{Stored}
 use Rattle.meaning_areas.proofs.Equal.{row-link-decides}
 use Rattle.meaning_areas.proofs.Tables.{get-here, get-there, not_none, some_same, test-other, test-same}
+use Rattle.meaning_files.specs.Commands.{changed as changed_by}
 use Rattle.meaning_files.specs.Files.{Files}
 use Rattle.meaning_merge.specs.Restoring.{in_the_way}
 use Rattle.meaning_settling.specs.Keyed.{is_at}
@@ -37,7 +36,7 @@ use Rattle.meaning_settling.specs.Settling.{Copies, Moved, copy_of, link_key}
 use Rattle.meaning_tables.specs.Links.{gives, takes}
 use Rattle.meaning_tables.specs.Tables.{Tables}
 use Rattle.meaning_system.specs.Claims.{by_evaluated, claim_refusal, claimed, conflict, first_seen, prepare_refusal, same_moved, statement, with_names}
-use Rattle.meaning_system.specs.Commands.{command_changes, command_refusal}
+use Rattle.meaning_system.specs.Commands.{command_refusal}
 use Rattle.meaning_system.specs.CoreOf.{HasClaims, IsLive, Seen}
 use Rattle.meaning_system.specs.Following.{AreInSessions, HasSessions}
 use Rattle.meaning_system.specs.Machine.{archive, archive_file, archive_on, back_up, back_up_at, begin, begun, by_conflict, by_refusal, committed, crash_database, drawing, drop_all, drop_left, finish_all, finish_left, first_session, is_bound, is_left_in, lost_to, new_txn, on_session, on_txn, pending, resolve, restore, restore_at, restore_found, restore_idle, restore_to, restored_state, settled_by, start, step, target_tables, unfinished, voted, with_phase}
@@ -189,7 +188,7 @@ module _ (P : State → Type 0) (s : State) (same : P s) where
     where
       by : (o : Option FileRefusal) → P (by_refusal s cmd o).1
       by (Some why) = same
-      by None = changed (unwrap_or (with_changes s.files (command_changes s.files cmd.user cmd.what)) s.files)
+      by None = changed (changed_by s.files cmd)
 
   pub at-archive : (n : LinkNo) → ((copies : Copies) → P (record s { copies = copies })) → P (archive s n).1
   at-archive n copied = by (find (λ l. is_at (link_key n) (link_key l.link)) (pending s))

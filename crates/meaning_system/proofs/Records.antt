@@ -1,75 +1,29 @@
 -- The folds take the records of file commands and of backups.
-use Rattle.std.proofs.Common.{◌≡◌, ℕ, ◌+◌, ◌≤◌, ◌<◌, ◌&&◌, ◌||◌, Bool, true, false, not, cond, nat_lt, nat_le, List, [], ◌∷◌, ◌++◌, length, map, bytes_eq, Option, Some, None, is_some, refl, ◌∙◌, ap, arith}
+use Rattle.std.proofs.Common.{◌≡◌, ℕ, ◌+◌, ◌≤◌, ◌<◌, ◌&&◌, ◌||◌, Bool, true, false, not, cond, nat_lt, nat_le, List, [], ◌∷◌, ◌++◌, length, map, bytes_eq, Some, None, refl, ◌∙◌, ap, arith}
 use Rattle.std.proofs.lemmas.Bool.Decides.{nat_tests}
-use Rattle.std.specs.FinMap as maps
 use Rattle.std.specs.List.{list_all, list_any}
-use Rattle.std.specs.Option.{option_and_then, unwrap_or}
-use Rattle.dl_base.specs.declared.answer.FileRefusal.{FileRefusal}
-use Rattle.dl_base.specs.declared.file.File.{File}
-use Rattle.dl_base.specs.declared.file.FileChange.TheVariants as changes
 use Rattle.dl_base.specs.declared.file.FileCmd.{FileCmd}
-use Rattle.dl_base.specs.declared.file.FileWhat.{FileWhat}
-use Rattle.dl_base.specs.declared.file.FileWhat.TheVariants as whats
 use Rattle.dl_base.specs.declared.value.Row.{Row}
 use Rattle.dl_base.specs.declared.value.Value.{Value}
 use Rattle.dl_codec.specs.declared.backups.BackupRecord.TheVariants as backup_records
 use Rattle.meaning_areas.specs.Commits.{rising}
 use Rattle.meaning_areas.specs.Copies.{Backup, table_of_image, image_stands, backups_step}
-use Rattle.meaning_areas.specs.FilesArea.{if_there, with_changes}
+use Rattle.meaning_areas.proofs.FilesLaws.{command-does}
 use Rattle.meaning_areas.proofs.Tables.{test-same}
-use Rattle.meaning_files.specs.Files.{Files, with_owner}
+use Rattle.meaning_files.specs.Commands.{command_changes}
+use Rattle.meaning_files.specs.Files.{with_changes}
 use Rattle.meaning_merge.specs.Merging.{AreNamed}
 use Rattle.meaning_tables.specs.Fits.{differ}
 use Rattle.meaning_tables.specs.Tables.{Rows, Tables, Rise, table_of}
-use Rattle.meaning_system.specs.Commands.{needs_file, command_refusal, command_changes, with_file, put}
+use Rattle.meaning_system.specs.Commands.{command_refusal, forbids}
 use Rattle.meaning_system.specs.Following.{AreRising}
 use Rattle.meaning_system.specs.Machine.{by_refusal}
 use Rattle.meaning_system.specs.State.{State}
 use Rattle.meaning_system.specs.Writes.{image_of}
 
--- FILE COMMANDS, by the file that a command asks for
-
-pub file-there : (path : List ℕ) (o : Option File) (later : File → Option FileRefusal) → needs_file path o later ≡ None → (f : File) × (o ≡ Some f)
-file-there path None later e = absurd cc
-file-there path (Some f) later e = (f, refl)
-
-module _ (files : Files) (user path : List ℕ) (f : File) (at : maps.get files path ≡ Some f) where
-  pub file-written : (bytes : List ℕ) → with_changes files (command_changes files user (whats.Write path bytes)) ≡ Some (maps.insert files path (record { owner = f.owner; bytes = bytes; before = f.before }))
-  file-written bytes = ap (λ (o : Option File). with_changes files (with_file o (λ g. put path (record { owner = g.owner; bytes = bytes; before = g.before }) ∷ []))) at
-
-  pub file-deleted : with_changes files (command_changes files user (whats.Delete path)) ≡ Some (maps.remove files path)
-  file-deleted = ap (λ (o : Option File). option_and_then (λ (later : Files). Some later) (if_there o (maps.remove files path))) at
-
-  pub file-renamed : (to : List ℕ) → with_changes files (command_changes files user (whats.Rename path to)) ≡ Some (maps.insert (maps.remove files path) to f)
-  file-renamed to =
-      ap (λ (o : Option File). with_changes files (with_file o (λ g. changes.Removed path ∷ put to g ∷ []))) at
-      ∙ ap (λ (o : Option File). option_and_then (λ (later : Files). Some (maps.insert later to f)) (if_there o (maps.remove files path))) at
-
-  pub file-owned : (on : Bool) → with_changes files (command_changes files user (whats.Chmod path on)) ≡ Some (maps.insert files path (record { owner = record { name = f.owner.name; writable = on }; bytes = f.bytes; before = f.before }))
-  file-owned on =
-      ap (λ (o : Option File). with_changes files (with_file o (λ g. changes.Kept path (record { name = g.owner.name; writable = on }) g.before ∷ []))) at
-      ∙ ap (λ (o : Option File). option_and_then (λ (later : Files). Some later) (if_there o (with_owner files path (record { name = f.owner.name; writable = on }) f.before o))) at
-
-module _ (s : State) (user : List ℕ) where
-  taken : (what : FileWhat) (later : Files) → with_changes s.files (command_changes s.files user what) ≡ Some later → is_some (with_changes s.files (command_changes s.files user what)) ≡ true
-  taken what later e = ap is_some e
-
-  command-there : (what : FileWhat) → command_refusal s user what ≡ None → is_some (with_changes s.files (command_changes s.files user what)) ≡ true
-  command-there (whats.Create path bytes) e = refl
-  command-there (whats.Write path bytes) e = let f = file-there path (maps.get s.files path) _ e in taken (whats.Write path bytes) _ (file-written s.files user path f.0 f.1 bytes)
-  command-there (whats.Delete path) e = let f = file-there path (maps.get s.files path) _ e in taken (whats.Delete path) _ (file-deleted s.files user path f.0 f.1)
-  command-there (whats.Rename path to) e = let f = file-there path (maps.get s.files path) _ e in taken (whats.Rename path to) _ (file-renamed s.files user path f.0 f.1 to)
-  command-there (whats.Chmod path on) e = let f = file-there path (maps.get s.files path) _ e in taken (whats.Chmod path on) _ (file-owned s.files user path f.0 f.1 on)
-  command-there (whats.Read path token) e = refl
-  command-there whats.List e = refl
-
-unwrapped : {A : Type 0} (o : Option A) (other : A) → is_some o ≡ true → o ≡ Some (unwrap_or o other)
-unwrapped (Some x) other e = refl
-unwrapped None other e = absurd cc
-
 -- THE CHANGES OF AN ACCEPTED COMMAND are taken, and lead to the machine's files behind it
 pub command-taken : (s : State) (cmd : FileCmd) → command_refusal s cmd.user cmd.what ≡ None → with_changes s.files (command_changes s.files cmd.user cmd.what) ≡ Some (by_refusal s cmd None).1.files
-command-taken s cmd e = unwrapped (with_changes s.files (command_changes s.files cmd.user cmd.what)) s.files (command-there s cmd.user cmd.what e)
+command-taken s cmd e = command-does s.files (forbids s cmd.what) cmd e
 
 -- BACKUPS: a table is read as it was written
 

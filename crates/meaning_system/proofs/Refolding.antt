@@ -270,7 +270,7 @@ module _ (f : Folds) (s : State) (follows : Follows f s) (idle : (q : ℕ) → m
         subst IsWhole (ap (stored_with (s.commits ++ d ∷ []) s.backups s.rows_opening s.links_opening) (sym (one ∙ ap (settle_one m) (settled-none (decided_in (claiming (core_of s) m)) (txs_of s.commits) (kept_in s) none-decided)))) whole-after
 
     decides : Joint second behind
-    decides = restore-committed f (core_of s) follows.joint idle-works bound m (drawn-here m.gives owed.moved_drawn.0) (drawn-here m.takes owed.moved_drawn.1) d number branched refl refl moved-there ready-there (drawn-here (links later) owed.drawn) whole-behind
+    decides = restore-committed f (core_of s) follows.joint idle-works bound m (drawn-here m.gives owed.moved_drawn.0) (drawn-here m.takes owed.moved_drawn.1) d number branched refl refl refl refl moved-there ready-there (drawn-here (links later) owed.drawn) whole-behind
 
     finish-there : behind.works (number_of s + 1) ≡ Some (record { stage = decided; branch = true; moved = m })
     finish-there = ap behind.works (sym number) ∙ work-here (claiming (core_of s) m).works (number_of (drawing s)) (Some (record { stage = decided; branch = true; moved = m }))

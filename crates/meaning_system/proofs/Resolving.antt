@@ -90,7 +90,7 @@ drop-all (tx ∷ txs) s = step (drop-all txs) (maps.get s.txs tx) refl
 decided_is : (p : Phase) (m : Moved) → is_decided p ≡ true → cond (is_decided p) (Some m) None ≡ Some m
 decided_is p m e = ap (λ b. cond b (Some m) None) e
 
-finish-one : (s : State) (tx : ℕ) (t : Txn) → maps.get s.txs tx ≡ Some t → is_decided t.phase ≡ true → AreApart (decided_in s) → AreDistinct (txs_of s.commits) → IsIn tx (txs_of s.commits) → stored (without_txn (settled_by s t) tx) ≡ stored s
+finish-one : (s : State) (tx : ℕ) (t : Txn) → maps.get s.txs tx ≡ Some t → is_decided t.phase ≡ true → AreApart (decided_in s) (txs_of s.commits) → AreDistinct (txs_of s.commits) → IsIn tx (txs_of s.commits) → stored (without_txn (settled_by s t) tx) ≡ stored s
 finish-one s tx t is waits apart once among =
     let m = moved_of t in
     let later : State = without_txn (settled_by s t) tx in
@@ -101,8 +101,8 @@ finish-one s tx t is waits apart once among =
     same-part s (settled (decided_in later) (txs_of s.commits) (kept_in later)) (settled (decided_in later) (txs_of s.commits) (settle_one m (kept_in s))) parts.0 parts.1
     ∙ (λ i. part_of (with_kept s (sym front i)))
 
-apart-gone : (s : State) (tx : ℕ) → AreApart (decided_in s) → AreApart (decided_in (without_txn s tx))
-apart-gone s tx apart t u other a b at_t at_u = apart t u other a b (was t a at_t) (was u b at_u)
+apart-gone : (s : State) (tx : ℕ) (ts : List ℕ) → AreApart (decided_in s) ts → AreApart (decided_in (without_txn s tx)) ts
+apart-gone s tx ts apart t u in_t in_u other a b at_t at_u = apart t u in_t in_u other a b (was t a at_t) (was u b at_u)
   where
     was : (q : ℕ) (m : Moved) → decided_in (without_txn s tx) q ≡ Some m → decided_in s q ≡ Some m
     was q m e = ⊎_elim
@@ -122,21 +122,21 @@ within-self : (cs : List Commit) → Within cs (txs_of cs)
 within-self [] = tt
 within-self (c ∷ cs) = (inl refl, within-more cs (txs_of cs) c.tx (within-self cs))
 
-finish-all : (cs : List Commit) (s : State) → AreApart (decided_in s) → AreDistinct (txs_of s.commits) → Within cs (txs_of s.commits) → stored (finish_all s cs) ≡ stored s
+finish-all : (cs : List Commit) (s : State) → AreApart (decided_in s) (txs_of s.commits) → AreDistinct (txs_of s.commits) → Within cs (txs_of s.commits) → stored (finish_all s cs) ≡ stored s
 finish-all [] s apart once within = refl
 finish-all (c ∷ cs) s apart once within = step (finish-all cs) (maps.get s.txs c.tx) refl
   where
-    step : ((x : State) → AreApart (decided_in x) → AreDistinct (txs_of x.commits) → Within cs (txs_of x.commits) → stored (finish_all x cs) ≡ stored x)
+    step : ((x : State) → AreApart (decided_in x) (txs_of x.commits) → AreDistinct (txs_of x.commits) → Within cs (txs_of x.commits) → stored (finish_all x cs) ≡ stored x)
         → (o : Option Txn) → maps.get s.txs c.tx ≡ o → stored (finish_all (finish_left s c.tx o) cs) ≡ stored s
     step go None e = go s apart once within.1
     step go (Some t) e = by (is_left_in s is_decided (c.tx, t)) refl
       where
         by : (b : Bool) → is_left_in s is_decided (c.tx, t) ≡ b → stored (finish_all (cond b (without_txn (settled_by s t) c.tx) s) cs) ≡ stored s
         by true is =
-            go (without_txn (settled_by s t) c.tx) (apart-gone (settled_by s t) c.tx apart) once within.1
+            go (without_txn (settled_by s t) c.tx) (apart-gone (settled_by s t) c.tx (txs_of s.commits) apart) once within.1
             ∙ finish-one s c.tx t e (and-right (is_left s c.tx) (is_decided t.phase) is) apart once within.0
         by false is = go s apart once within.1
 
 -- RESOLVE
-pub resolve-stays : (s : State) → AreApart (decided_in s) → AreDistinct (txs_of s.commits) → stored (resolve s).1 ≡ stored s
+pub resolve-stays : (s : State) → AreApart (decided_in s) (txs_of s.commits) → AreDistinct (txs_of s.commits) → stored (resolve s).1 ≡ stored s
 resolve-stays s apart once = drop-all (maps.keys s.txs) (finish_all s s.commits) ∙ finish-all s.commits s apart once (within-self s.commits)

@@ -119,7 +119,7 @@ module _ (f : Folds) (s : State) (joint : Joint f (core_of s)) (tx : ℕ) (t : T
       → Joint (with_decision f (commit_by s tx t)) (core_of (committed s tx t))
   state-decided is waits given taken moved ready drawn whole =
       subst (Joint (with_decision f (commit_by s tx t))) (sym decided-core)
-      (joint-decided f (core_of s) joint (commit_by s tx t) (work_by phases.Prepared (moved_of t)) (work-is is ∙ ap (λ (w : Work). Some w) waits) refl refl given taken moved ready drawn whole)
+      (joint-decided f (core_of s) joint (commit_by s tx t) (work_by phases.Prepared (moved_of t)) (work-is is ∙ ap (λ (w : Work). Some w) waits) refl refl given taken refl refl moved ready drawn whole)
 
   -- FINISH of a commit with a branch
   finished-core : core_of (without_txn (settled_by s t) tx) ≡ core_finished (core_of s) tx (moved_of t)

@@ -17,9 +17,9 @@ use Rattle.meaning_areas.specs.Stands.{AreDrawn, txs_of}
 use Rattle.meaning_merge.specs.Merging.{commit_changes}
 use Rattle.meaning_merge.specs.Restoring.{in_the_way, restore_changes, without_lost}
 use Rattle.meaning_merge.specs.Touching.{In}
-use Rattle.meaning_settling.specs.Apart.{IsReady, has_key, has_path}
+use Rattle.meaning_settling.specs.Apart.{IsReady, has_key}
 use Rattle.meaning_settling.specs.Settled.{settled}
-use Rattle.meaning_settling.specs.Settling.{link_key, on}
+use Rattle.meaning_settling.specs.Settling.{on}
 use Rattle.meaning_tables.specs.Fits.{fits}
 use Rattle.meaning_tables.specs.Links.{gives, links, takes}
 use Rattle.meaning_tables.specs.OptionRows.{is_option_row}
@@ -28,7 +28,7 @@ use Rattle.meaning_system.specs.Claims.{conflict}
 use Rattle.meaning_system.specs.Commands.{forbidding}
 use Rattle.meaning_system.specs.CoreOf.{core_of}
 use Rattle.meaning_system.specs.Machine.{commit_by, first_session, lost_to, merged_by, next_commit, restore_moved, restore_to, target_tables, unfinished}
-use Rattle.meaning_system.specs.State.{Txn, State, tables_of, moved_of, is_active, is_decided, is_doomed, is_prepared, kept_in}
+use Rattle.meaning_system.specs.State.{Txn, State, tables_of, moved_of, is_active, is_doomed, is_prepared, kept_in}
 
 -- THE LISTS FOLLOW a state: they go with its core, and no Finish was cut short
 pub record Follows (f : Folds) (s : State) : Type 0 where
@@ -96,10 +96,6 @@ AreRestored s t = (target : Tables) → first_session s ≡ None → unfinished 
 -- each active transaction is one of a session
 abbrev pub AreInSessions : State → Type 0
 AreInSessions s = (tx : ℕ) (t : Txn) → maps.get s.txs tx ≡ Some t → is_active t.phase ≡ true → (session : ℕ) × (maps.get s.sessions session ≡ Some tx)
-
--- a decided transaction that has the number of a committed link has it on that link's path
-abbrev pub HaveOnePath : State → Type 0
-HaveOnePath s = (tx : ℕ) (t : Txn) (l : LinkRow) → maps.get s.txs tx ≡ Some t → is_decided t.phase ≡ true → on (links (tables_of s)) l.path ≡ Some l → has_key (moved_of t) (link_key l.link) ≡ true → has_path (moved_of t) l.path ≡ true
 
 -- the links that forbid commands have options of the seven rows
 abbrev pub HaveRows : State → Type 0

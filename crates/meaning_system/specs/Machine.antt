@@ -2,7 +2,6 @@
 use Rattle.std.specs.Prelude.{ℕ, zero, suc, ◌+◌, ◌-◌, ◌^◌, ◌&&◌, Bool, false, not, min, if◌then◌else◌, List, [], ◌∷◌, ◌++◌, length, filter, slice_get, is_none, Option, Some, None}
 use Rattle.std.specs.FinMap as maps
 use Rattle.std.specs.List.{find, flat_map, list_any}
-use Rattle.std.specs.Option.{unwrap_or}
 use Rattle.dl_base.specs.declared.answer.Answer.{Answer}
 use Rattle.dl_base.specs.declared.answer.Answer.TheVariants as answers
 use Rattle.dl_base.specs.declared.answer.FileRefusal.{FileRefusal}
@@ -20,16 +19,16 @@ use Rattle.dl_base.specs.declared.step.Target.{Target}
 use Rattle.dl_base.specs.declared.step.Target.TheVariants as targets
 use Rattle.dl_base.specs.declared.value.LinkNo.{LinkNo}
 use Rattle.dl_base.specs.declared.value.LinkRow.{LinkRow}
-use Rattle.meaning_areas.specs.FilesArea.{with_changes}
 use Rattle.meaning_areas.specs.Commits.{Commit, commit_to}
 use Rattle.meaning_areas.specs.Copies.{Backup}
 use Rattle.meaning_areas.specs.Stands.{Stored, past}
+use Rattle.meaning_files.specs.Commands.{command_answer, changed}
 use Rattle.meaning_settling.specs.Keyed.{is_at}
 use Rattle.meaning_settling.specs.Settling.{Moved, link_key, copy_of, settle_one}
 use Rattle.meaning_tables.specs.Links.{links, gives, takes}
 use Rattle.meaning_tables.specs.Tables.{Tables}
 use Rattle.meaning_system.specs.Claims.{statement, prepare_refusal, conflict}
-use Rattle.meaning_system.specs.Commands.{command_refusal, command_changes, command_answer}
+use Rattle.meaning_system.specs.Commands.{command_refusal}
 use Rattle.meaning_merge.specs.Merging.{merge}
 use Rattle.meaning_merge.specs.Restoring.{is_lost, without_lost, lost_cells, in_the_way, restored_tables}
 use Rattle.meaning_areas.specs.Same.{same_tables}
@@ -107,7 +106,7 @@ on_session s asked (Some e) = on_txn s asked e.0 e.1 e.1.phase
 
 abbrev pub by_refusal : State → FileCmd → Option FileRefusal → Answer × State
 by_refusal s cmd (Some why) = refused s (reasons.File why)
-by_refusal s cmd None = (command_answer s.files cmd.what, record s { files = unwrap_or (with_changes s.files (command_changes s.files cmd.user cmd.what)) s.files })
+by_refusal s cmd None = (command_answer s.files cmd.what, record s { files = changed s.files cmd })
 
 -- archive
 

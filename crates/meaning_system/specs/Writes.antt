@@ -27,10 +27,10 @@ use Rattle.meaning_areas.specs.Commits.{Commit, commit_of}
 use Rattle.meaning_areas.specs.Finishing.{file_copy, finish_records}
 use Rattle.meaning_areas.specs.Lists.{Folds, Written, in_rows, in_links, in_files, in_archive, in_backups, folds_on}
 use Rattle.meaning_areas.specs.Stands.{is_open, kept_of}
+use Rattle.meaning_files.specs.Commands.{command_changes}
 use Rattle.meaning_settling.specs.Keyed.{is_at}
 use Rattle.meaning_settling.specs.Settling.{Moved, Kept, link_key}
 use Rattle.meaning_tables.specs.Tables.{Rows, Tables}
-use Rattle.meaning_system.specs.Commands.{command_changes}
 use Rattle.meaning_system.specs.Machine.{step, next_commit, restore_moved, restore_to, target_tables, drawing, is_left_in, finish_left}
 use Rattle.meaning_merge.specs.Merging.{commit_changes}
 use Rattle.meaning_merge.specs.Restoring.{without_lost, restore_changes}

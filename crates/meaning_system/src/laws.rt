@@ -17,12 +17,12 @@ ghost use Rattle.meaning_areas.specs.Branches.{branch};
 ghost use Rattle.meaning_areas.specs.Commits.{tables_after};
 ghost use Rattle.meaning_areas.specs.Copies.{Backup, backups_step};
 ghost use Rattle.meaning_areas.specs.Core.{core_stored};
-ghost use Rattle.meaning_areas.specs.FilesArea.{with_changes};
 ghost use Rattle.meaning_areas.specs.Joint.{Joint};
 ghost use Rattle.meaning_areas.specs.Lists.{Folds};
 ghost use Rattle.meaning_areas.specs.Moving.{core_decided, with_decision, with_finish, with_links_opening, with_rows_opening, with_table};
 ghost use Rattle.meaning_areas.specs.Stands.{AreDrawn, IsStand, IsWhole, Stored, kept_of, txs_of};
-ghost use Rattle.meaning_files.specs.Files.{Files};
+ghost use Rattle.meaning_files.specs.Commands.{command_changes};
+ghost use Rattle.meaning_files.specs.Files.{Files, with_changes};
 ghost use Rattle.meaning_merge.specs.Merging.{AreNamed};
 ghost use Rattle.meaning_settling.specs.Apart.{Apart, IsReady};
 ghost use Rattle.meaning_settling.specs.Settled.{AreApart, AreDistinct};
@@ -31,9 +31,9 @@ ghost use Rattle.meaning_tables.specs.Fits.{fits};
 ghost use Rattle.meaning_tables.specs.Links.{links};
 ghost use Rattle.meaning_tables.specs.Tables.{Tables};
 ghost use Rattle.meaning_system.specs.Claims.{claim_refusal, statement};
-ghost use Rattle.meaning_system.specs.Commands.{command_changes, command_refusal};
+ghost use Rattle.meaning_system.specs.Commands.{command_refusal};
 ghost use Rattle.meaning_system.specs.CoreOf.{HasClaims, core_of, work_by, work_of};
-ghost use Rattle.meaning_system.specs.Following.{AreClaimed, AreInSessions, AreMerged, AreRestored, AreRising, Follows, HasOwnNumbers, HasSessions, HaveFiles, HaveFits, HaveNumbers, HaveOnePath, HaveRows, Leads};
+ghost use Rattle.meaning_system.specs.Following.{AreClaimed, AreInSessions, AreMerged, AreRestored, AreRising, Follows, HasOwnNumbers, HasSessions, HaveFiles, HaveFits, HaveNumbers, HaveRows, Leads};
 ghost use Rattle.meaning_system.specs.Machine.{begun, by_refusal, commit_by, committed, crash_database, crash_manager, resolve, settled_by, start, step, with_phase};
 ghost use Rattle.meaning_system.specs.State.{State, Txn, decided_in, ended, has_links, moved_of, number_of, settle, stored, tables_of, with_txn};
 ghost use Rattle.meaning_system.specs.Writes.{image_of, writes};
@@ -51,7 +51,7 @@ pub fn settling_leaves_the_stored_part()
 
 /// Resolve leaves the stored part as it was: what it settles and what it drops is what settling would.
 pub fn resolve_leaves_the_stored_part()
-    ensures { (s : State) → AreApart (decided_in s) → AreDistinct (txs_of s.commits) → stored (resolve s).1 ≡ stored s }
+    ensures { (s : State) → AreApart (decided_in s) (txs_of s.commits) → AreDistinct (txs_of s.commits) → stored (resolve s).1 ≡ stored s }
 {}
 
 /// Lists that go with a state go, with the records that a step writes, with the state after it.
@@ -89,18 +89,16 @@ pub fn commands_and_backups_are_taken()
 {}
 
 /// THE RECORDS OF A STEP lead from lists that follow a state to lists that follow the state behind the step: all are taken, in order.
-/// What a Statement, a Decide and a Restore owe to the history behind a commit is a premise: that link numbers are the transaction's
-/// own, `AreMerged`, and `AreRestored`.
+/// What a Decide and a Restore owe to the history behind a commit is a premise: `AreMerged`, and `AreRestored`.
 pub fn records_of_a_step_lead_to_its_lists()
     ensures begin { (f : Folds) (s : State) (session : ℕ) → Follows f s → number_of s + 1 < (s.rows_opening + 1) * 2 ^ 32 → Leads f (writes s (steps.Begin session)) (step s (steps.Begin session)).1 }
-    ensures statement { (f : Folds) (s : State) (session : ℕ) (stmt : statements.Stmt) → Follows f s → ((tx : ℕ) (t : Txn) → maps.get s.txs tx ≡ Some t → HasOwnNumbers s tx (statement s tx t stmt).1)
-        → Leads f (writes s (steps.Statement session stmt)) (step s (steps.Statement session stmt)).1 }
+    ensures statement { (f : Folds) (s : State) (session : ℕ) (stmt : statements.Stmt) → Follows f s → Leads f (writes s (steps.Statement session stmt)) (step s (steps.Statement session stmt)).1 }
     ensures prepare { (f : Folds) (s : State) (session : ℕ) → Follows f s → AreClaimed s → Leads f (writes s (steps.Prepare session)) (step s (steps.Prepare session)).1 }
     ensures decide { (f : Folds) (s : State) (session : ℕ) → Follows f s → HasSessions s → AreMerged s → Leads f (writes s (steps.Decide session)) (step s (steps.Decide session)).1 }
     ensures finish { (f : Folds) (s : State) (session : ℕ) → Follows f s → HaveNumbers s → Leads f (writes s (steps.Finish session)) (step s (steps.Finish session)).1 }
     ensures rollback { (f : Folds) (s : State) (session : ℕ) → Follows f s → Leads f (writes s (steps.Rollback session)) (step s (steps.Rollback session)).1 }
     ensures file { (f : Folds) (s : State) (cmd : cmds.FileCmd) → Follows f s → fits (tables_of s) ≡ true → HaveRows s → Leads f (writes s (steps.File cmd)) (step s (steps.File cmd)).1 }
-    ensures archive { (f : Folds) (s : State) (n : numbers.LinkNo) → Follows f s → fits (tables_of s) ≡ true → HaveOnePath s → Leads f (writes s (steps.Archive n)) (step s (steps.Archive n)).1 }
+    ensures archive { (f : Folds) (s : State) (n : numbers.LinkNo) → Follows f s → fits (tables_of s) ≡ true → Leads f (writes s (steps.Archive n)) (step s (steps.Archive n)).1 }
     ensures backup { (f : Folds) (s : State) → Follows f s → AreNamed (tables_of s) → AreRising (tables_of s) → Leads f (writes s steps.Backup) (step s steps.Backup).1 }
     ensures restore { (f : Folds) (s : State) (t : aims.Target) → Follows f s → AreInSessions s → s.drawn + 1 < 2 ^ 32 → AreRestored s t → Leads f (writes s (steps.Restore t)) (step s (steps.Restore t)).1 }
     ensures tick { (f : Folds) (s : State) (n : ℕ) → Follows f s → Leads f (writes s (steps.Tick n)) (step s (steps.Tick n)).1 }

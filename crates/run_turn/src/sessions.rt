@@ -153,10 +153,7 @@ fn asked(cmd: FileCmd) -> Turn
 fn is_built_command(what: &FileWhat) -> bool
     ensures { result ≡ meant.is_built_command what.now }
 {
-    matches!(
-        what,
-        FileWhat::Create(_, _) | FileWhat::Delete(_) | FileWhat::Read(_, None)
-    )
+    !matches!(what, FileWhat::Read(_, Some(_)))
 }
 
 fn is_controlled(kind: KindDef) -> bool

@@ -6,6 +6,7 @@ pub mod KeyColumns
 pub mod KeyPlaces
 pub mod Naming
 pub mod Numbering
+pub mod OneSet
 pub mod Reversed
 pub mod Standing
 pub mod StoodKeys

@@ -1,13 +1,11 @@
 -- An UPDATE that sets no key column leaves keys as they were.
-use Rattle.std.proofs.Common.{◌≡◌, ◌+◌, ◌<◌, ◌≤◌, ◌==◌, ◌||◌, ◌&&◌, ◌++◌, ℕ, suc, zero, Bool, true, false, List, [], ◌∷◌, length, map, drop, get_or, Option, Some, None, is_none, Result, Ok, Err, if◌then◌else◌, refl, sym, ap, ◌∙◌, subst, arith, unwrap_or, nat_le}
+use Rattle.std.proofs.Common.{◌≡◌, ◌+◌, ◌<◌, ◌==◌, ◌||◌, ◌&&◌, ℕ, suc, zero, Bool, true, false, List, [], ◌∷◌, length, Option, Some, None, is_none, Result, Ok, Err, if◌then◌else◌, refl, sym, ap, ◌∙◌, subst, arith, unwrap_or, nat_le}
 use Rattle.std.specs.Prelude.{slice_get}
 use Rattle.std.specs.Cmp.Lexicographic.{pointwise}
 use Rattle.std.specs.List.{list_any, list_all}
 use Rattle.std.proofs.lemmas.Bool.{and_parts}
 use Rattle.std.proofs.lemmas.Bool.Decides.{nat_tests}
 use Rattle.dl_base.specs.declared.column.Column.{Column}
-use Rattle.dl_base.specs.declared.column.ColumnRule.{ColumnRule}
-use Rattle.dl_base.specs.declared.column.ColumnRule.TheVariants as column_rules
 use Rattle.dl_base.specs.declared.column.Kind.{Kind}
 use Rattle.dl_base.specs.declared.column.Kind.TheVariants as kinds
 use Rattle.dl_base.specs.declared.answer.Limit.TheVariants as limits

@@ -1,5 +1,5 @@
 -- Key columns, and keys that have stood in a table with one of them.
-use Rattle.std.specs.Prelude.{◌≡◌, ℕ, ℤ, ◌==◌, Bool, false, List, [], ◌∷◌, Option, Some, None, slice_get}
+use Rattle.std.specs.Prelude.{◌≡◌, ℕ, ℤ, ◌==◌, Bool, true, false, List, [], ◌∷◌, Option, Some, None, slice_get}
 use Rattle.std.specs.Cmp.Lexicographic.{pointwise}
 use Rattle.std.specs.List.{list_any}
 use Rattle.std.specs.Ordering.{int_eq}
@@ -7,6 +7,8 @@ use Rattle.dl_base.specs.declared.column.Column.{Column}
 use Rattle.dl_base.specs.declared.value.Value.{Value}
 use Rattle.dl_base.specs.declared.value.Value.TheVariants as values
 use Rattle.meaning_tables.specs.Fits.{same_key, is_key}
+use Rattle.sql_keys.specs.declared.finding.KeyRows.{KeyRows}
+use Rattle.sql_keys.specs.declared.finding.KeyRows.TheVariants as left
 
 abbrev pub StoodKeys : Type 0
 StoodKeys = List (List Value)
@@ -28,3 +30,9 @@ is_key_at columns place = is_key_column (slice_get columns place)
 -- whether one of the columns at these places is a key
 abbrev pub sets_key : List Column → List ℕ → Bool
 sets_key columns places = list_any (is_key_at columns) places
+
+-- whether no row but that of a number is left over
+abbrev pub is_at_most : ℕ → KeyRows → Bool
+is_at_most number left.All = false
+is_at_most number (left.One other) = other == number
+is_at_most number left.Nothing = true

@@ -1,7 +1,7 @@
 -- Steps of a proof, which nobody need read: with `told` they equal `insert`, `update` and `delete` of the meaning of statements
 -- (`Changing`). Each is what is left to do of a statement once the parts before it are known. What is made is the table, the next
 -- link number and the number of rows that were put in, met or removed.
-use Rattle.std.specs.Prelude.{ℕ, ◌+◌, ◌-◌, ◌==◌, ◌++◌, Bool, List, [], length, map, Option, Result, Ok}
+use Rattle.std.specs.Prelude.{ℕ, ◌+◌, ◌-◌, ◌==◌, ◌++◌, List, [], length, map, Option, Result, Ok}
 use Rattle.dl_base.specs.declared.answer.Limit.TheVariants as limits
 use Rattle.dl_base.specs.declared.sql_fault.SqlFault.{SqlFault}
 use Rattle.dl_base.specs.declared.sql_fault.SqlFault.TheVariants as faults

@@ -1,17 +1,21 @@
 // The keys of rows.
-ghost use Rattle.std.specs.Prelude.{◌≡◌, ◌==◌, ◌||◌, ◌++◌, ◌∷◌, [], List, ℕ, ℤ, map, not, true, IfOk, OnOk};
+ghost use Rattle.std.specs.Prelude.{◌≡◌, ◌==◌, ◌||◌, ◌++◌, ◌∷◌, [], List, ℕ, ℤ, map, not, true, IfOk, OnOk, Ok, Some};
 ghost use Rattle.std.specs.Bool.{OnTrue};
 ghost use Rattle.std.specs.Cmp.Lexicographic.{pointwise};
 ghost use Rattle.std.specs.List.{list_any};
 ghost use Rattle.std.specs.Ordering.{int_eq};
 ghost use Rattle.meaning_sql.specs.Faults.{Computes};
 ghost use Rattle.meaning_statements.specs.Changing.{keys_hold, duplicate};
+ghost use Rattle.dl_base.specs.declared.value.Row.{Row as RowMeant};
 ghost use Rattle.meaning_tables.specs.Fits as meant;
-ghost use Rattle.sql_change.specs.Keys.{HaveStood, StoodKeys, is_key_at, sets_key};
+ghost use Rattle.meaning_tables.specs.Fits.{table_fits};
+ghost use Rattle.meaning_tables.specs.Tables.{Rise, with_row};
+ghost use Rattle.sql_change.specs.Keys.{HaveStood, StoodKeys, is_at_most, is_key_at, sets_key};
+ghost use Rattle.sql_keys.specs.Keys as key_places;
 ghost use Rattle.sql_keys.specs.Keys.{IsKeyAt};
 
-use dl_base::{Column, ColumnRule, Copied, List, Memory, Row, SqlFault, Value};
-use sql_keys::only_key;
+use dl_base::{Column, Copied, List, Memory, Row, SqlFault, Value};
+use sql_keys::{KeyRows, has_key, is_key, only_key, rows_with_key};
 use sql_table::Table;
 use std::alloc::Global;
 use std::collections::HashSet;
@@ -29,6 +33,58 @@ pub(crate) fn check_keys(alloc: Global, table: &Table) -> Result<(), SqlFault>
         Some(place) => check_one(alloc, table, place),
         None => check_all(alloc, table),
     }
+}
+
+/// Whether the row of a number, which has changed alone, surely has a key that no other row has: the index of the table before is
+/// asked, whose keys differ. It takes no memory. The cost grows with the logarithm of the number of rows.
+pub(crate) fn has_own_key(before: &Table, after: &Table, number: u64) -> bool
+    requires fits { table_fits before.now ≡ true }
+    requires others { after.now ≡ record before.now { rows = after.now.rows } }
+    requires one { (row : RowMeant) × (after.now.rows ≡ with_row before.now.rows number row) }
+    ensures { result ≡ true → keys_hold after.now ≡ Ok true }
+{
+    numbered(before);
+    match only_key(before.columns().as_slice()) {
+        Some(place) => is_alone(before, after, place, number),
+        None => false,
+    }
+}
+
+// The same where the key is the value at a place.
+fn is_alone(before: &Table, after: &Table, place: usize, number: u64) -> bool
+    requires fits { table_fits before.now ≡ true }
+    requires others { after.now ≡ record before.now { rows = after.now.rows } }
+    requires one { (row : RowMeant) × (after.now.rows ≡ with_row before.now.rows number row) }
+    requires rise { Rise 0 before.now.next before.now.rows }
+    requires key { key_places.only_key before.now.columns ≡ Some place }
+    requires at { IsKeyAt before.now.columns place }
+    ensures { result ≡ true → keys_hold after.now ≡ Ok true }
+{
+    match after.row(number) {
+        Some(row) => match row.values.at(place) {
+            Some(key) => is_at_most(rows_with_key(before, place, key), number),
+            None => false,
+        },
+        None => false,
+    }
+}
+
+// Whether no row but that of a number is left over.
+fn is_at_most(rows: KeyRows, number: u64) -> bool
+    ensures { result ≡ is_at_most number rows }
+{
+    match rows {
+        KeyRows::All => false,
+        KeyRows::One(other) => other == number,
+        KeyRows::Nothing => true,
+    }
+}
+
+// The numbers of rows rise, as a table tells with their count.
+fn numbered(table: &Table)
+    ensures { Rise 0 table.now.next table.now.rows }
+{
+    let _ = table.len();
 }
 
 // The keys in a table whose key is the value at one place: each is looked for among those that have stood.
@@ -105,12 +161,6 @@ fn check_all(alloc: Global, table: &Table) -> Result<(), SqlFault>
     Ok(())
 }
 
-fn has_key(columns: &[Column]) -> bool
-    ensures { result ≡ list_any (λ c. meant.is_key c.rule) columns.now }
-{
-    columns.iter().any(|column| is_key(column.rule))
-}
-
 /// Whether one of the columns at these places is a key.
 pub(crate) fn sets_key(columns: &List<Column>, places: &List<usize>) -> bool
     ensures { result ≡ sets_key columns.now places.now }
@@ -129,16 +179,6 @@ fn is_key_at(columns: &List<Column>, place: usize) -> bool
     match columns.at(place) {
         Some(column) => is_key(column.rule),
         None => false,
-    }
-}
-
-fn is_key(rule: ColumnRule) -> bool
-    ensures { result ≡ meant.is_key rule }
-{
-    match rule {
-        ColumnRule::Key => true,
-        ColumnRule::Plain => false,
-        ColumnRule::NotNull => false,
     }
 }
 

@@ -5,13 +5,15 @@ ghost use Rattle.meaning_sql.specs.Faults.{Computes};
 ghost use Rattle.meaning_statements.specs.Changing.{keys_hold};
 ghost use Rattle.meaning_statements.specs.Sources as sources_meant;
 ghost use Rattle.meaning_tables.specs.Fits.{table_fits};
+ghost use Rattle.sql_rows.specs.Touching.{Touches};
 ghost use Rattle.sql_change.specs.Parts as parts;
 
 use crate::changing::Outcome;
-use crate::keys::{check_keys, sets_key};
+use crate::keys::{check_keys, has_own_key, sets_key};
 use crate::places::{check_types, own_columns, set_names, set_places, types_of_sets};
 use dl_base::{Expr, List, Name, SqlFault};
 use sql_expr::{Columns, Context, filter_type};
+use sql_keys::KeyRows;
 use sql_rows::{Updated, delete_rows, update_rows};
 use sql_table::Table;
 use std::alloc::Global;
@@ -98,17 +100,37 @@ fn set_rows(
 {
     let made = update_rows(alloc, table, columns, context, filter, places, sets, k)?;
     let keyed = sets_key(table.columns(), places);
-    replaced(alloc, made, keyed)
+    let differ = keys_differ(table, &made, keyed);
+    replaced(alloc, made, differ)
 }
 
-// The table after an UPDATE, where its keys differ, as they do where none is set.
+// Whether the keys of a table after an UPDATE surely differ: none is set, or no row is met, or the one that is met has a key that no
+// other row has.
+fn keys_differ(table: &Table, made: &Updated, keyed: bool) -> bool
+    requires unset { keyed ≡ false → keys_hold made.now.table ≡ Ok true }
+    requires fits { table_fits table.now ≡ true }
+    requires others { made.now.table ≡ record table.now { rows = made.now.table.rows } }
+    requires touched { Touches made.now.touched table.now.rows made.now.table.rows }
+    ensures { result ≡ true → keys_hold made.now.table ≡ Ok true }
+{
+    if !keyed {
+        return true;
+    }
+    match made.touched {
+        KeyRows::All => false,
+        KeyRows::One(number) => has_own_key(table, &made.table, number),
+        KeyRows::Nothing => true,
+    }
+}
+
+// The table after an UPDATE, where its keys differ: all are looked at where this is not known.
 #[tactic(auto, unfolding(crate::specs::Parts::replaced))]
-fn replaced(alloc: Global, made: Updated, keyed: bool) -> Result<Outcome, SqlFault>
-    requires { keyed ≡ false → keys_hold made.table ≡ Ok true }
+fn replaced(alloc: Global, made: Updated, differ: bool) -> Result<Outcome, SqlFault>
+    requires { differ ≡ true → keys_hold made.table ≡ Ok true }
     ensures made { Computes (λ m. (m.table, (m.next, m.count))) result (parts.replaced made.table made.next made.met) }
     ensures next { IfOk result (λ m. m.next ≡ made.next) }
 {
-    if keyed {
+    if !differ {
         check_keys(alloc, &made.table)?;
     }
     Ok(Outcome {

@@ -8,8 +8,8 @@ use crate::operator::compared;
 use crate::truth::is_null;
 use dl_base::{Fold, SqlFault, Value};
 
-/// The aggregate of the rows so far, x, and the value of one more row.
-pub(crate) fn gather(fold: Fold, x: Value, y: Value) -> Result<Value, SqlFault>
+/// The aggregate of the rows so far, x, and the value of one more row. It is refused (`Overflow`) where a sum passes 64 bits.
+pub fn gather(fold: Fold, x: Value, y: Value) -> Result<Value, SqlFault>
     ensures { result ≡ meaning.gather fold x y }
 {
     match fold {

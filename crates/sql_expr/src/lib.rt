@@ -13,6 +13,7 @@ mod operator;
 mod truth;
 mod types;
 
+pub use aggregate::gather;
 pub use checking::{check, check_in};
 pub use columns::place_of;
 pub use condition::{condition_type, filter_holds, filter_type, holds};

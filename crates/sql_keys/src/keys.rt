@@ -29,13 +29,15 @@ fn place_of_key(columns: &[Column]) -> Option<usize>
     None
 }
 
-fn has_key(columns: &[Column]) -> bool
+/// Whether one of the columns is a key. It takes no memory.
+pub fn has_key(columns: &[Column]) -> bool
     ensures { result ≡ list_any (λ c. meant.is_key c.rule) columns.now }
 {
     columns.iter().any(|column| is_key(column.rule))
 }
 
-fn is_key(rule: ColumnRule) -> bool
+/// Whether a column of this rule is a key.
+pub fn is_key(rule: ColumnRule) -> bool
     ensures { result ≡ meant.is_key rule }
 {
     match rule {

@@ -8,6 +8,6 @@ mod keys;
 #[cfg(test)]
 mod tests;
 
-pub use asking::{Wanted, asked, asked_by_all};
+pub use asking::{Wanted, asked, asked_by_all, is_never_refused};
 pub use finding::{KeyRows, rows_asked, rows_with_key};
-pub use keys::only_key;
+pub use keys::{has_key, is_key, only_key};

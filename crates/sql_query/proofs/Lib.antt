@@ -1,7 +1,9 @@
 pub mod Walking
 pub mod Reach
 pub mod Early
-pub mod Counts
+pub mod Passed
+pub mod Fitting
+pub mod Folds
 pub mod Apart
 pub mod Orders
 pub mod Merging

@@ -1,6 +1,7 @@
 pub mod Sources
 pub mod Reach
-pub mod Counting
+pub mod Seeking
+pub mod Folding
 pub mod Walking
 pub mod Items
 pub mod Keys

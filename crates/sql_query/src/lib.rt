@@ -3,7 +3,7 @@
 
 mod answering;
 mod conditions;
-mod counting;
+mod folding;
 mod group_key;
 mod grouping;
 mod items;
@@ -11,8 +11,10 @@ mod joining;
 mod kept;
 mod keys;
 mod ordering;
+mod seeking;
 mod selecting;
 mod sorting;
 mod sources;
+mod state;
 
 pub use selecting::select;

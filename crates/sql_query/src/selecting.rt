@@ -3,19 +3,22 @@ ghost use Rattle.std.specs.Prelude.{◌≡◌, ◌++◌, true};
 ghost use Rattle.meaning_sql.specs.Faults.{Computes, and_then, option_list};
 ghost use Rattle.meaning_statements.specs.Selecting as meant;
 ghost use Rattle.meaning_statements.specs.Sources as sources_meant;
+ghost use Rattle.meaning_tables.specs.Fits.{RowsFit};
 ghost use Rattle.sql_query.specs.Answering.{answers_of};
+ghost use Rattle.sql_query.specs.Folding.{items_of};
 ghost use Rattle.sql_query.specs.Planning as planning;
+ghost use Rattle.sql_query.specs.Walking.{AllFit};
 
 use crate::answering::shown;
 use crate::conditions::condition_types;
-use crate::counting::is_counting;
+use crate::folding::{have_operand, is_folding};
 use crate::grouping::{group_places, scope_of};
 use crate::items::item_types;
 use crate::joining::combined;
 use crate::keys::order_keys;
 use crate::sorting::sorted;
 use crate::sources::{Source, are_few, columns_of, sources_of};
-use dl_base::{Grid, Limit, List, Row, Select, SqlFault};
+use dl_base::{Grid, Item, Limit, List, Row, Select, SqlFault};
 use meaning_sql::{Columns, Context};
 use sql_expr::filter_type;
 use sql_table::Tables;
@@ -25,14 +28,17 @@ use std::alloc::Global;
 /// types of its expressions in order of text, of GROUP BY and of ORDER BY (`NoColumn`, `Ambiguous`, `TypeFault`), by the number
 /// of its combined rows (`Limit`), and by the values of its conditions, and then of its items (`Overflow`, `ZeroDivide`,
 /// `BadLink`); or there is no `Memory`. A condition is asked as soon as the sources are combined whose columns it and the conditions
-/// before it name, and ends what is behind them: its cost grows with the rows combined so, with the rows that are kept, and as n log n
-/// with the answers that are sorted. Without GROUP BY, and with no aggregate but items that are COUNT(*), one row alone is kept.
+/// before it name, and ends what is behind them; a source whose key they ask to be a number, a text, or a cell of a source before it is
+/// looked up: its cost grows with the rows combined so, with the rows that are kept, and as n log n with the answers that are sorted.
+/// Without GROUP BY, and with no aggregate but items that are one over columns, one row
+/// alone is kept. The rows of tables fit.
 pub fn select(
     alloc: Global,
     tables: &Tables,
     query: &Select,
     context: &Context,
 ) -> Result<Grid, SqlFault>
+    requires rows { RowsFit tables.now }
     ensures { Computes (λ g. g.rows) result (meant.select tables.now query.now context.entry.now) }
 {
     match over_tables(alloc, tables, query, context) {
@@ -47,6 +53,7 @@ fn over_tables(
     query: &Select,
     context: &Context,
 ) -> Result<List<Row>, SqlFault>
+    requires { RowsFit tables.now }
     ensures { Computes (λ r. r) result (and_then (sources_meant.sources_of tables.now query.now.from) (λ s. planning.selected s query.now context.entry.now)) }
 {
     let sources = sources_of(alloc, tables, query.from.as_slice())?;
@@ -59,6 +66,7 @@ fn selected(
     query: &Select,
     context: &Context,
 ) -> Result<List<Row>, SqlFault>
+    requires { AllFit sources.now }
     ensures { Computes (λ r. r) result (planning.selected sources.now query.now context.entry.now) }
 {
     let columns = columns_of(alloc, sources)?;
@@ -74,7 +82,8 @@ fn over_columns(
     query: &Select,
     context: &Context,
 ) -> Result<List<Row>, SqlFault>
-    requires { columns.now ≡ sources_meant.columns_of sources.now }
+    requires columns { columns.now ≡ sources_meant.columns_of sources.now }
+    requires fit { AllFit sources.now }
     ensures { Computes (λ r. r) result (planning.chosen columns.now sources.now query.now context.entry.now) }
 {
     let plan = planned(alloc, columns, query)?;
@@ -95,6 +104,7 @@ fn answered(
 ) -> Result<List<Row>, SqlFault>
     requires columns { columns.now ≡ sources_meant.columns_of sources.now }
     requires few { meant.are_few sources.now ≡ true }
+    requires fit { AllFit sources.now }
     ensures { Computes (λ r. r) result (planning.answered columns.now sources.now query.now context.entry.now plan.now.places plan.now.keys) }
 {
     let places = plan.places.as_slice();
@@ -102,7 +112,7 @@ fn answered(
     Ok(sorted(alloc, made, plan.keys.as_slice())?)
 }
 
-// What is shown of the combined rows. Of a query that only counts, the first one alone is kept.
+// What is shown of the combined rows. Of a query that folds, the first one alone is kept.
 fn rows_shown(
     alloc: Global,
     sources: &[Source],
@@ -113,12 +123,30 @@ fn rows_shown(
 ) -> Result<List<Row>, SqlFault>
     requires columns { columns.now ≡ sources_meant.columns_of sources.now }
     requires few { meant.are_few sources.now ≡ true }
+    requires fit { AllFit sources.now }
     ensures { Computes (λ r. r) result (and_then (meant.combined sources.now context.entry.now (query.now.conditions ++ option_list query.now.filter)) (answers_of columns.now context.entry.now query.now places.now)) }
 {
-    let first_alone = is_counting(query, places);
-    match combined(alloc, sources, query, columns, context, first_alone) {
+    let folds = is_folding(query, places);
+    let items = folded_items(query, folds);
+    match combined(alloc, sources, query, columns, context, items, folds) {
         Ok(kept) => shown(alloc, query, columns, context, places, kept),
         Err(fault) => Err(fault),
+    }
+}
+
+// The items whose aggregates are folded row by row.
+fn folded_items(query: &Select, folds: bool) -> &[Item]
+    ensures { result.now ≡ items_of folds query.now.items }
+{
+    match &query.items {
+        Some(items) => {
+            if folds && have_operand(items.as_slice()) {
+                items.as_slice()
+            } else {
+                &[]
+            }
+        }
+        None => &[],
     }
 }
 

@@ -210,7 +210,7 @@ module _ (all : Columns) (context : Context) (filter : Option Expr) (t : Rows) (
   pub nothing_left : (left : Rows) → left ≡ t → remaining all context (option_list filter) t.rows ≡ Ok left.rows
   nothing_left left is = none_gone all context (option_list filter) (IsUnmet all filter) (λ r h. (h context).1) t.rows over ∙ ap (λ (x : Rows). Ok x.rows) (sym is)
 
-  pub nothing_updated : (places : List ℕ) (rights : List Expr) (k : ℕ) (u : Updated) → u ≡ record { table = t; next = k; met = 0 } → updated_rows all context t.columns (option_list filter) places rights k t.rows ≡ Ok (u.table.rows, (u.next, u.met))
+  pub nothing_updated : (places : List ℕ) (rights : List Expr) (k : ℕ) (u : Updated) → u ≡ record { table = t; next = k; met = 0; touched = key_rows.Nothing } → updated_rows all context t.columns (option_list filter) places rights k t.rows ≡ Ok (u.table.rows, (u.next, u.met))
   nothing_updated places rights k u is =
       none_updated all context (option_list filter) (IsUnmet all filter) (λ r h. (h context).1) t places rights k t.rows over ∙ ap (λ (x : Updated). Ok (x.table.rows, (x.next, x.met))) (sym is)
 

@@ -1,1 +1,2 @@
 pub mod NewRows
+pub mod Touching

@@ -1,12 +1,14 @@
 // What is put into the cells of a row.
-ghost use Rattle.std.specs.Prelude.{◌≡◌, ◌≤◌, IfOk, Ok, length, suc};
+ghost use Rattle.std.specs.Prelude.{◌≡◌, ◌≤◌, [], IfOk, Ok, length, suc};
 ghost use Rattle.dl_base.specs.Limits.{link_numbers};
 ghost use Rattle.meaning_sql.specs.Faults.{Computes};
 ghost use Rattle.meaning_sql.specs.Values as values_meant;
 ghost use Rattle.meaning_statements.specs.Assigning as meant;
 
 use dl_base::limits::MOST_LINKS;
-use dl_base::{Column, ColumnRule, Copied, Dl, Kind, Limit, LinkNo, List, Row, SqlFault, Value};
+use dl_base::{
+    Column, ColumnRule, Copied, Dl, Kind, Limit, LinkNo, List, Memory, Row, SqlFault, Value,
+};
 use dl_location::host_part;
 use sql_expr::cell;
 use std::alloc::Global;
@@ -40,7 +42,7 @@ pub(crate) fn stored_row(
     ensures few { IfOk result (λ p. p.next ≤ link_numbers) }
     ensures wide { IfOk result (λ p. length p.values ≡ length columns.now) }
 {
-    let mut values = List::empty(alloc);
+    let mut values = room_for(alloc, columns.len())?;
     let mut k = first;
     for (i, column) in columns.as_slice().iter().enumerate() {
         let put = stored_at(tx, k, column, i, old, new)?;
@@ -48,6 +50,13 @@ pub(crate) fn stored_row(
         k = put.next;
     }
     Ok(PutRow { values, next: k })
+}
+
+// A list of no values that has room for so many: a row of a table takes no more than its values do.
+fn room_for(alloc: Global, count: usize) -> Result<List<Value>, Memory>
+    ensures { IfOk result (λ made. made ≡ []) }
+{
+    Ok(List::from_vec(Vec::with_capacity(alloc, count)?))
 }
 
 fn stored_at(

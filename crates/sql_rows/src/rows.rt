@@ -10,6 +10,7 @@ ghost use Rattle.meaning_tables.specs.Tables.{Rise, with_row};
 ghost use Rattle.sql_keys.specs.Finding.{IsUnmet, PassesOver};
 ghost use Rattle.sql_keys.specs.declared.finding.KeyRows.TheVariants as key_rows;
 ghost use Rattle.sql_rows.specs.NewRows.{tuple_rows};
+ghost use Rattle.sql_rows.specs.Touching.{Touches};
 
 use crate::cells::{PutRow, stored_row};
 use dl_base::{Column, Copied, Expr, List, Name, Row, SqlFault, Value};
@@ -36,6 +37,8 @@ pub struct Updated {
     pub next: u32,
     /// How many rows the condition was true of.
     pub met: u64,
+    /// Which rows may have new values.
+    pub touched: KeyRows,
 }
 
 // The values of expressions at a row, in order.
@@ -299,6 +302,7 @@ pub fn update_rows(
     ensures put { Computes (λ u. (u.table.rows, (u.next, u.met))) result (meant.updated_rows all.now context.entry.now table.now.columns (option_list filter.now) places.now (map (λ s. s.1) sets.now) first table.now.rows) }
     ensures others { IfOk result (λ u. u.table ≡ record table.now { rows = u.table.rows }) }
     ensures few { IfOk result (λ u. u.next ≤ link_numbers) }
+    ensures touched { IfOk result (λ u. Touches u.touched table.now.rows u.table.rows) }
 {
     match rows_asked(table, all, filter)? {
         KeyRows::All => update_each(alloc, table, all, context, filter, places, sets, first),
@@ -324,6 +328,7 @@ fn update_each(
     ensures put { Computes (λ u. (u.table.rows, (u.next, u.met))) result (meant.updated_rows all.now context.entry.now table.now.columns (option_list filter.now) places.now (map (λ s. s.1) sets.now) first table.now.rows) }
     ensures others { IfOk result (λ u. u.table ≡ record table.now { rows = u.table.rows }) }
     ensures few { IfOk result (λ u. u.next ≤ link_numbers) }
+    ensures touched { IfOk result (λ u. Touches u.touched table.now.rows u.table.rows) }
 {
     let mut made = table.copy()?;
     let mut k = first;
@@ -345,6 +350,7 @@ fn update_each(
                     table: made,
                     next: k,
                     met,
+                    touched: KeyRows::All,
                 });
             }
         }
@@ -353,6 +359,7 @@ fn update_each(
         table: made,
         next: k,
         met,
+        touched: KeyRows::All,
     })
 }
 
@@ -374,6 +381,7 @@ fn update_one(
     ensures put { Computes (λ u. (u.table.rows, (u.next, u.met))) result (meant.updated_rows all.now context.entry.now table.now.columns (option_list filter.now) places.now (map (λ s. s.1) sets.now) first table.now.rows) }
     ensures others { IfOk result (λ u. u.table ≡ record table.now { rows = u.table.rows }) }
     ensures few { IfOk result (λ u. u.next ≤ link_numbers) }
+    ensures touched { IfOk result (λ u. Touches u.touched table.now.rows u.table.rows) }
 {
     numbered(table);
     match table.row(number) {
@@ -401,6 +409,7 @@ fn update_one(
 fn set_one(table: &Table, number: u64, put: PutRow) -> Result<Updated, SqlFault>
     ensures table { IfOk result (λ u. u.table ≡ record table.now { rows = with_row table.now.rows number (record { values = put.values }) }) }
     ensures next { IfOk result (λ u. (u.next ≡ put.next) × (u.met ≡ 1)) }
+    ensures touched { IfOk result (λ u. Touches u.touched table.now.rows u.table.rows) }
     ensures memory { IfErr result (λ e. e ≡ faults.Memory) }
 {
     let mut made = table.copy()?;
@@ -409,16 +418,18 @@ fn set_one(table: &Table, number: u64, put: PutRow) -> Result<Updated, SqlFault>
         table: made,
         next: put.next,
         met: 1,
+        touched: KeyRows::One(number),
     })
 }
 
 // What is made of a table of which no row is met.
 fn unmet(table: Table, next: u32) -> Updated
-    ensures { result ≡ record { table = table; next = next; met = 0 } }
+    ensures { result ≡ record { table = table; next = next; met = 0; touched = key_rows.Nothing } }
 {
     Updated {
         table,
         next,
         met: 0,
+        touched: KeyRows::Nothing,
     }
 }

@@ -1,5 +1,5 @@
 -- The links of a table that others lack, by the numbers of their rows.
-use Rattle.std.proofs.Common.{◌≡◌, ℕ, zero, suc, ◌+◌, ◌<◌, ◌≤◌, ◌==◌, ◌&&◌, ◌||◌, Bool, true, false, not, cond, is_some, Option, Some, None, List, [], ◌∷◌, ◌++◌, map, take, refl, sym, ap, ◌∙◌, arith, subst, add-one}
+use Rattle.std.proofs.Common.{◌≡◌, ℕ, ◌+◌, ◌<◌, ◌==◌, ◌&&◌, ◌||◌, Bool, true, false, not, cond, is_some, Option, Some, None, List, [], ◌∷◌, ◌++◌, map, take, refl, sym, ap, ◌∙◌, arith, add-one}
 use Rattle.std.specs.List.{list_any, flat_map, slice_get}
 use Rattle.std.specs.List.Sorted.{IsStrictlySortedBy}
 use Rattle.std.specs.Ordering.{is_eq, nat_cmp}
@@ -18,10 +18,10 @@ use Rattle.meaning_tables.specs.First.{first_number, has_link}
 use Rattle.meaning_tables.specs.Links.{lacking, links, row_links, same_number, table_links}
 use Rattle.meaning_tables.specs.Tables.{Rise, Rows, Tables, row_of}
 use Rattle.sql_table.specs.Lacking.{CoversLacking, lacking_at, row_lacking}
-use Rattle.sql_table.specs.Marks.{IsIndex, among, link_marks, marked}
+use Rattle.sql_table.specs.Marks.{IsIndex, link_marks, marked}
 use Rattle.sql_table.proofs.First.{row-same, same-equal, take-next}
 use Rattle.sql_table.proofs.Marking.{entry-eq, eq-cmp}
-use Rattle.sql_table.proofs.Rising.{Rising, apart, differs, same_made, sorted_rises}
+use Rattle.sql_table.proofs.Rising.{Rising, differs, same_made, sorted_rises}
 use Rattle.sql_table.proofs.RowLinks.{held}
 
 abbrev had : List LinkRow → LinkNo → Bool

@@ -1,5 +1,5 @@
 -- What a table keeps of its rows, as they come, change and go.
-use Rattle.std.proofs.Common.{◌≡◌, ℕ, ◌+◌, Option, Some, List, [], ◌∷◌, ◌++◌, sym, subst, arith}
+use Rattle.std.proofs.Common.{◌≡◌, ℕ, ◌+◌, Some, List, [], ◌∷◌, ◌++◌, sym, subst, arith}
 use Rattle.dl_base.specs.declared.column.Column.{Column}
 use Rattle.dl_base.specs.declared.value.LinkNo.{LinkNo}
 use Rattle.dl_base.specs.declared.value.Row.{Row}
@@ -7,8 +7,8 @@ use Rattle.dl_pages.specs.Orders.{link_order}
 use Rattle.meaning_tables.specs.Tables.{row_of, with_row, without_row}
 use Rattle.sql_table.specs.declared.key.Key.{Key}
 use Rattle.sql_table.specs.Keys.{key_order, key_marks}
-use Rattle.sql_table.specs.Marks.{IsKept, WithMarks, WithoutMarks, link_marks}
-use Rattle.sql_table.proofs.Marking.{index_none, index_inserted, index_replaced, index_removed}
+use Rattle.sql_table.specs.Marks.{IsKept, OtherMarks, WithMarks, WithoutMarks, link_marks}
+use Rattle.sql_table.proofs.Marking.{index_none, index_inserted, index_exchanged, index_removed}
 use Rattle.sql_table.proofs.Numbers.{rise-inserted, rise-replaced, rise-removed}
 
 pub kept_new : (columns : List Column) (rows : List (ℕ × Row)) (links : List (LinkNo × ℕ)) (keys : List (Key × ℕ)) → rows ≡ [] → links ≡ [] → keys ≡ [] → IsKept columns 1 rows links keys
@@ -23,15 +23,15 @@ kept_pushed columns next rows after links new keys renewed row marks own kept is
       keys = index_inserted key_order (key_marks columns) next rows row keys renewed kept.rise kept.keys (subst (λ ms. WithMarks key_order ms next keys renewed) are plus);
     })
 
-pub kept_replaced : (columns : List Column) (next number : ℕ) (rows after : List (ℕ × Row)) (links between new : List (LinkNo × ℕ)) (keys amid renewed : List (Key × ℕ)) (before row : Row) (old marks : List LinkNo) (past own : List Key) → IsKept columns next rows links keys
-    → row_of rows number ≡ Some before → old ≡ link_marks columns before → WithoutMarks link_order old number links between → marks ≡ link_marks columns row → WithMarks link_order marks number between new
-    → past ≡ key_marks columns before → WithoutMarks key_order past number keys amid → own ≡ key_marks columns row → WithMarks key_order own number amid renewed
+pub kept_replaced : (columns : List Column) (next number : ℕ) (rows after : List (ℕ × Row)) (links new : List (LinkNo × ℕ)) (keys renewed : List (Key × ℕ)) (before row : Row) (old marks : List LinkNo) (past own : List Key) → IsKept columns next rows links keys
+    → row_of rows number ≡ Some before → old ≡ link_marks columns before → marks ≡ link_marks columns row → OtherMarks link_order old marks number links new
+    → past ≡ key_marks columns before → own ≡ key_marks columns row → OtherMarks key_order past own number keys renewed
     → after ≡ with_row rows number row → IsKept columns next after new renewed
-kept_replaced columns next number rows after links between new keys amid renewed before row old marks past own kept at was less is more were minus are plus e =
+kept_replaced columns next number rows after links new keys renewed before row old marks past own kept at was is other were are others e =
     subst (λ rs. IsKept columns next rs new renewed) (sym e) (record {
       rise = rise-replaced 0 next number rows row kept.rise;
-      links = index_replaced link_order (link_marks columns) number rows row before links between new at kept.links (subst (λ ms. WithoutMarks link_order ms number links between) was less) (subst (λ ms. WithMarks link_order ms number between new) is more);
-      keys = index_replaced key_order (key_marks columns) number rows row before keys amid renewed at kept.keys (subst (λ ms. WithoutMarks key_order ms number keys amid) were minus) (subst (λ ms. WithMarks key_order ms number amid renewed) are plus);
+      links = index_exchanged link_order (link_marks columns) number rows row before links new at kept.links (subst (λ ms. OtherMarks link_order (link_marks columns before) ms number links new) is (subst (λ ms. OtherMarks link_order ms marks number links new) was other));
+      keys = index_exchanged key_order (key_marks columns) number rows row before keys renewed at kept.keys (subst (λ ms. OtherMarks key_order (key_marks columns before) ms number keys renewed) are (subst (λ ms. OtherMarks key_order ms own number keys renewed) were others));
     })
 
 pub kept_removed : (columns : List Column) (next number : ℕ) (rows after : List (ℕ × Row)) (links new : List (LinkNo × ℕ)) (keys renewed : List (Key × ℕ)) (before : Row) (old : List LinkNo) (past : List Key) → IsKept columns next rows links keys

@@ -6,5 +6,6 @@ pub mod Left
 pub mod Marking
 pub mod Names
 pub mod Numbers
+pub mod Placing
 pub mod Rising
 pub mod RowLinks

@@ -1,8 +1,9 @@
 -- Indexes, as rows come, change and go.
-use Rattle.std.proofs.Common.{◌≡◌, ℕ, zero, suc, ◌+◌, ◌<◌, ◌≤◌, ◌==◌, ◌&&◌, ◌||◌, Bool, true, false, not, cond, Option, Some, None, List, [], ◌∷◌, ◌++◌, refl, sym, ap, ◌∙◌, arith, subst}
-use Rattle.std.specs.List.{list_any}
+use Rattle.std.proofs.Common.{◌≡◌, ℕ, ◌+◌, ◌<◌, ◌≤◌, ◌==◌, ◌&&◌, ◌||◌, Bool, true, false, not, cond, Option, Some, None, List, [], ◌∷◌, ◌++◌, refl, sym, ap, ◌∙◌, arith, subst}
+use Rattle.std.specs.Cmp.{IsTotalOrder}
+use Rattle.std.specs.Cmp.Lexicographic.{pointwise}
 use Rattle.std.specs.List.Sorted.{IsStrictlySortedBy}
-use Rattle.std.specs.Ordering.{is_eq, is_lt, nat_cmp, ordering_then}
+use Rattle.std.specs.Ordering.{is_eq, nat_cmp, ordering_reverse, ordering_then}
 use Rattle.std.specs.declared.cmp.Ordering.{Ordering}
 use Rattle.std.specs.declared.cmp.Ordering.TheVariants.{Less, Equal, Greater}
 use Rattle.std.proofs.lemmas.Bool.{eq-eqb, ne_eqb}
@@ -11,7 +12,7 @@ use Rattle.dl_base.specs.declared.value.Row.{Row}
 use Rattle.dl_pages.specs.Entries.{entry_order}
 use Rattle.dl_pages.specs.Sets.{has, WithMember, WithoutMember}
 use Rattle.meaning_tables.specs.Tables.{Rise, row_of, with_row, without_row}
-use Rattle.sql_table.specs.Marks.{among, marked, IsIndex, WithMarks, WithoutMarks}
+use Rattle.sql_table.specs.Marks.{among, marked, IsIndex, OtherMarks, WithMarks, WithoutMarks}
 
 -- what `==` of two numbers says, by their order
 pub eq-cmp : (n m : ℕ) → is_eq (nat_cmp n m) ≡ (m == n)
@@ -58,6 +59,53 @@ module _ {K : Type 0} (order : K → K → Ordering) where
   unmarks-step number m left made new less k n =
       ap (λ b. not ((number == n) && among order k left) && b) (less.each (k, n) ∙ ap (λ b. not b && has (entry_order order) made (k, n)) (entry-eq k m n number))
       ∙ less-bits (number == n) (is_eq (order k m)) (among order k left) (has (entry_order order) made (k, n))
+
+-- other marks under a number
+module _ {K : Type 0} (order : K → K → Ordering) where
+  other-bits : (a o h : Bool) → h ≡ o → (a || (not o && h)) ≡ a
+  other-bits true o h e = refl
+  other-bits false true h e = refl
+  other-bits false false h e = e
+
+  pub other_moved : (old marks : List K) (number : ℕ) (index between new : List (K × ℕ)) → WithoutMarks order old number index between → WithMarks order marks number between new → OtherMarks order old marks number index new
+  other_moved old marks number index between new less more = record {
+    sorted = more.sorted;
+    each = λ k n own. more.each k n ∙ ap (λ h. ((number == n) && among order k marks) || h) (less.each k n) ∙ by k n own (number == n) refl;
+  }
+    where
+      by : (k : K) (n : ℕ) → (number ≡ n → has (entry_order order) index (k, n) ≡ among order k old) → (b : Bool) → (number == n) ≡ b
+          → ((b && among order k marks) || (not (b && among order k old) && has (entry_order order) index (k, n))) ≡ cond b (among order k marks) (has (entry_order order) index (k, n))
+      by k n own true e = let same : number ≡ n = grind (arith, nat_tests) in other-bits (among order k marks) (among order k old) (has (entry_order order) index (k, n)) (own same)
+      by k n own false e = refl
+
+  equal-is : (r : Ordering) → is_eq r ≡ true → r ≡ Equal
+  equal-is Less e = cc e
+  equal-is Equal e = refl
+  equal-is Greater e = cc e
+
+  both-true : (a b : Bool) → (a && b) ≡ true → (a ≡ true) × (b ≡ true)
+  both-true true b e = (refl, e)
+  both-true false b e = cc e
+
+  equal-among : IsTotalOrder order → (xs ys : List K) → pointwise (λ m o. is_eq (order m o)) xs ys ≡ true → (k : K) → among order k xs ≡ among order k ys
+  equal-among o [] [] e k = refl
+  equal-among o [] (y ∷ ys) e k = cc e
+  equal-among o (x ∷ xs) [] e k = cc e
+  equal-among o (x ∷ xs) (y ∷ ys) e k =
+      let both = both-true (is_eq (order x y)) (pointwise (λ m o. is_eq (order m o)) xs ys) e in
+      let turned : order k x ≡ order k y = o.antisymm k x ∙ ap ordering_reverse (o.congr x y k (equal-is (order x y) both.0)) ∙ sym (o.antisymm k y) in
+      ap (λ r. is_eq r || among order k xs) turned ∙ ap (λ b. is_eq (order k y) || b) (equal-among o xs ys both.1 k)
+
+  pub other_equal : IsTotalOrder order → (old marks : List K) (number : ℕ) (index new : List (K × ℕ)) → IsStrictlySortedBy (entry_order order) index → pointwise (λ m o. is_eq (order m o)) old marks ≡ true → new ≡ index → OtherMarks order old marks number index new
+  other_equal o old marks number index new sorted equal e = subst (λ l. OtherMarks order old marks number index l) (sym e) (record {
+    sorted = sorted;
+    each = λ k n own. by k n own (number == n) refl;
+  })
+    where
+      by : (k : K) (n : ℕ) → (number ≡ n → has (entry_order order) index (k, n) ≡ among order k old) → (b : Bool) → (number == n) ≡ b
+          → has (entry_order order) index (k, n) ≡ cond b (among order k marks) (has (entry_order order) index (k, n))
+      by k n own true e = let same : number ≡ n = grind (arith, nat_tests) in own same ∙ equal-among o old marks equal k
+      by k n own false e = refl
 
 -- the rows of numbers, after each change
 beyond : (first below number : ℕ) (rows : List (ℕ × Row)) → Rise first below rows → below ≤ number → row_of rows number ≡ None
@@ -162,18 +210,14 @@ module _ {K : Type 0} (order : K → K → Ordering) (marks : Row → List K) wh
         ∙ ap (marked order k marks) (sym (row-removed 0 below number n rows rise));
   }
 
-  cases-replaced : (k : K) (row : Row) (b : Bool) (old : Option Row) (h : Bool) → h ≡ marked order k marks (cond b None old) → ((b && among order k (marks row)) || h) ≡ marked order k marks (cond b (Some row) old)
-  cases-replaced k row true old h e = rw e (or-false (among order k (marks row)))
-    where
-      or-false : (a : Bool) → (a || false) ≡ a
-      or-false true = refl
-      or-false false = refl
-  cases-replaced k row false old h e = e
+  cases-other : (k : K) (row : Row) (b : Bool) (old : Option Row) (h : Bool) → h ≡ marked order k marks old → cond b (among order k (marks row)) h ≡ marked order k marks (cond b (Some row) old)
+  cases-other k row true old h e = refl
+  cases-other k row false old h e = e
 
-  pub index_replaced : (number : ℕ) (rows : List (ℕ × Row)) (row before : Row) (index between new : List (K × ℕ)) → row_of rows number ≡ Some before → IsIndex order marks rows index → WithoutMarks order (marks before) number index between → WithMarks order (marks row) number between new → IsIndex order marks (with_row rows number row) new
-  index_replaced number rows row before index between new is was less more = record {
-    sorted = more.sorted;
-    each = λ k n. more.each k n
-        ∙ cases-replaced k row (number == n) (row_of rows n) (has (entry_order order) between (k, n)) (less.each k n ∙ cases-removed k before (number == n) (row_of rows n) (has (entry_order order) index (k, n)) (found-at rows number n before is) (was.each k n))
+  pub index_exchanged : (number : ℕ) (rows : List (ℕ × Row)) (row before : Row) (index new : List (K × ℕ)) → row_of rows number ≡ Some before → IsIndex order marks rows index → OtherMarks order (marks before) (marks row) number index new → IsIndex order marks (with_row rows number row) new
+  index_exchanged number rows row before index new is was other = record {
+    sorted = other.sorted;
+    each = λ k n. other.each k n (λ e. was.each k n ∙ ap (marked order k marks) (subst (λ m. row_of rows m ≡ Some before) e is))
+        ∙ cases-other k row (number == n) (row_of rows n) (has (entry_order order) index (k, n)) (was.each k n)
         ∙ ap (marked order k marks) (sym (row-replaced number n rows row before is));
   }

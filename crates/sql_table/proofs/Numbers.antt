@@ -1,10 +1,10 @@
 -- Rows whose numbers rise.
-use Rattle.std.proofs.Common.{◌≡◌, ℕ, zero, suc, ◌+◌, ◌<◌, ◌≤◌, ◌==◌, ◌&&◌, ◌||◌, Bool, true, false, cond, Option, Some, None, List, [], ◌∷◌, ◌++◌, length, take, get_or, set, refl, sym, ap, ◌∙◌, arith, inl, inr, nat_lt, is_some}
+use Rattle.std.proofs.Common.{◌≡◌, ℕ, zero, suc, ◌+◌, ◌<◌, ◌≤◌, ◌==◌, ◌&&◌, ◌||◌, Bool, true, false, cond, Option, Some, None, List, [], ◌∷◌, ◌++◌, length, take, get_or, set, refl, sym, ap, ◌∙◌, arith, nat_lt, is_some}
 use Rattle.std.specs.List.{remove, slice_get, list_all, list_any}
 use Rattle.std.specs.Option.{option_map}
 use Rattle.std.proofs.lemmas.Bool.{eq-eqb, ne_eqb, le-ltb}
 use Rattle.std.proofs.lemmas.Bool.Decides.{nat_tests}
-use Rattle.std.proofs.lemmas.Option.{slice_get_read, slice_get_within, get_or_from_slice_get}
+use Rattle.std.proofs.lemmas.Option.{slice_get_within, get_or_from_slice_get}
 use Rattle.dl_base.specs.declared.value.Row.{Row}
 use Rattle.dl_pages.specs.Points.{IsPartitioned, IsPartitionPoint}
 use Rattle.meaning_tables.specs.Tables.{Rise, row_of, with_row, without_row}
@@ -134,7 +134,7 @@ none-removed number [] none = refl
 none-removed number (r ∷ rs) none = none-removed-by (number == r.0) r rs (without_row rs number) (row_of rs number) (none-removed number rs) none
 
 -- a place has a row
-pub some-at : (rows : List (ℕ × Row)) (place : ℕ) → place < length rows → option_map (λ r. r.1) (slice_get rows place) ≡ None → ⊥
+some-at : (rows : List (ℕ × Row)) (place : ℕ) → place < length rows → option_map (λ r. r.1) (slice_get rows place) ≡ None → ⊥
 some-at [] place within none = omega arith
 some-at (r ∷ rs) zero within none = cc none
 some-at (r ∷ rs) (suc place) within none = some-at rs place (omega arith) none

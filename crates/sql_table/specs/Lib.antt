@@ -4,3 +4,4 @@ pub mod Lacking
 pub mod Lending
 pub mod Marks
 pub mod Places
+pub mod Placing

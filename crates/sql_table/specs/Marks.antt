@@ -1,5 +1,5 @@
 -- What an index has of rows: each mark of a row, with the number of the row.
-use Rattle.std.specs.Prelude.{◌≡◌, ◌==◌, ◌&&◌, ◌||◌, ◌++◌, ◌∷◌, [], ℕ, Bool, false, not, List, Option, Some, None}
+use Rattle.std.specs.Prelude.{◌≡◌, ◌==◌, ◌&&◌, ◌||◌, ◌++◌, ◌∷◌, [], ℕ, Bool, false, cond, not, List, Option, Some, None}
 use Rattle.std.specs.List.{list_any}
 use Rattle.std.specs.List.Sorted.{IsStrictlySortedBy}
 use Rattle.std.specs.Option.{option_to_list}
@@ -41,6 +41,11 @@ pub record WithMarks {K : Type 0} (order : K → K → Ordering) (marks : List K
 pub record WithoutMarks {K : Type 0} (order : K → K → Ordering) (marks : List K) (number : ℕ) (old new : List (K × ℕ)) : Type 0 where
   pub sorted : IsStrictlySortedBy (entry_order order) new
   pub each : (k : K) (n : ℕ) → has (entry_order order) new (k, n) ≡ (not ((number == n) && among order k marks) && has (entry_order order) old (k, n))
+
+-- an index with other marks under a number, where it has these old ones there
+pub record OtherMarks {K : Type 0} (order : K → K → Ordering) (old marks : List K) (number : ℕ) (index new : List (K × ℕ)) : Type 0 where
+  pub sorted : IsStrictlySortedBy (entry_order order) new
+  pub each : (k : K) (n : ℕ) → (number ≡ n → has (entry_order order) index (k, n) ≡ among order k old) → has (entry_order order) new (k, n) ≡ cond (number == n) (among order k marks) (has (entry_order order) index (k, n))
 
 -- the link numbers of a row
 abbrev pub cell_marks : Kind → Value → List LinkNo

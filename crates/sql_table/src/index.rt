@@ -1,16 +1,19 @@
 // Indexes of rows: the marks of each row, which are its link numbers or its keys, with its number.
 ghost use Rattle.std.specs.Prelude.{◌≡◌, ◌++◌, IfOk, OnOk};
+ghost use Rattle.std.specs.Cmp.Lexicographic.{pointwise};
 ghost use Rattle.std.specs.List.Sorted.{IsStrictlySortedBy};
+ghost use Rattle.std.specs.Ordering.{is_eq};
 ghost use Rattle.dl_pages.specs.Entries.{entry_order};
 ghost use Rattle.dl_pages.specs.Orders.{link_order};
 ghost use Rattle.meaning_tables.specs.Tables.{Rise};
 ghost use Rattle.sql_table.specs.Keys.{key_order, key_marks};
-ghost use Rattle.sql_table.specs.Marks.{WithMarks, WithoutMarks, IsIndex, cell_marks, link_marks};
+ghost use Rattle.sql_table.specs.Marks.{WithMarks, WithoutMarks, OtherMarks, IsIndex, cell_marks, link_marks};
 
 use crate::key::{Key, row_keys};
 use dl_base::{Column, Kind, LinkNo, List, Memory, Row, Value};
 use dl_pages::{Ordered, Pages, with_member, without_member};
 use std::alloc::Global;
+use std::cmp::Ordering;
 
 /// The index with marks under a number.
 pub(crate) fn with_marks<K: Ordered>(
@@ -44,6 +47,47 @@ pub(crate) fn without_marks<K: Ordered>(
         made = without_member(alloc, &made, &(mark, number))?;
     }
     Ok(made)
+}
+
+/// The index with other marks under a number. Where they are equal to those that it has there, it is the same index, and no page is
+/// copied.
+#[tactic(auto, using(crate::proofs::Marking::other_moved))]
+pub(crate) fn with_other_marks<K: Ordered>(
+    alloc: Global,
+    index: &Pages<(K, u64)>,
+    before: List<K>,
+    marks: List<K>,
+    number: u64,
+) -> Result<Pages<(K, u64)>, Memory>
+    requires { IsStrictlySortedBy (entry_order K.order) index.now }
+    ensures { IfOk result (λ made. OtherMarks K.order before marks number index.now made) }
+{
+    if are_equal(before.as_slice(), marks.as_slice()) {
+        return index.share();
+    }
+    let left = without_marks(alloc, index, before, number)?;
+    with_marks(alloc, &left, marks, number)
+}
+
+// Whether marks are equal, place by place.
+fn are_equal<K: Ordered>(marks: &[K], others: &[K]) -> bool
+    ensures { result ≡ pointwise (λ m o. is_eq (K.order m o)) marks.now others.now }
+{
+    if marks.len() != others.len() {
+        return false;
+    }
+    for (i, mark) in marks.iter().enumerate() {
+        if !is_equal(mark, &others[i]) {
+            return false;
+        }
+    }
+    true
+}
+
+fn is_equal<K: Ordered>(mark: &K, other: &K) -> bool
+    ensures { result ≡ is_eq (K.order mark.now other.now) }
+{
+    mark.order(other) == Ordering::Equal
 }
 
 /// The link numbers of a row.

@@ -9,5 +9,5 @@ mod table;
 mod tables;
 
 pub use link_rows::{gives_takes, links};
-pub use table::{RowFault, Table};
+pub use table::Table;
 pub use tables::Tables;

@@ -136,8 +136,8 @@ fn put_copy(made: &mut List<LinkRow>, link: &LinkRow) -> Result<(), Memory>
     Ok(())
 }
 
-// Whether a link of tables has a number.
-fn has_number(tables: &Tables, link: LinkNo) -> bool
+/// Whether a link of tables has a number.
+pub(crate) fn has_number(tables: &Tables, link: LinkNo) -> bool
     ensures { result ≡ list_any (λ y. meant.same_number link y.link) (meant.links tables.now) }
 {
     for i in 0..tables.len() {

@@ -1,5 +1,5 @@
 // One table.
-ghost use Rattle.std.specs.Prelude.{◌≡◌, ◌↔◌, ◌<◌, Some, None, IfOk, IfErr, OnOk, OnErr, length, slice_get, MatchOption, is_some, ◌+◌, ◌++◌, ◌∷◌, [], drop};
+ghost use Rattle.std.specs.Prelude.{◌≡◌, ◌<◌, None, IfOk, OnOk, OnErr, length, slice_get, MatchOption, is_some, ◌+◌, ◌++◌, ◌∷◌, [], drop};
 ghost use Rattle.std.specs.Option.{option_copied, option_map};
 ghost use Rattle.dl_base.specs.Limits.{most_rows, row_numbers};
 ghost use Rattle.dl_pages.specs.Orders.{link_order};
@@ -8,23 +8,16 @@ ghost use Rattle.meaning_tables.specs.Tables.{Rise, row_of, with_row, without_ro
 ghost use Rattle.sql_table.specs.Marks.{IsIndex, IsKept, link_marks};
 ghost use Rattle.sql_table.specs.Places.{IsPlace};
 
+mod replaying;
+
 use crate::columns::Columns;
-use crate::index::{key_index, link_index, row_marks, with_marks, without_marks};
+use crate::index::{key_index, link_index, row_marks, with_marks, with_other_marks, without_marks};
 use crate::key::{Key, KeyProbe, number_probe, row_keys};
 use dl_base::{Column, Copied, LinkNo, List, Memory, Row, Same, Value};
 use dl_pages::{Pages, Predicate, least};
 use std::alloc::Global;
 use std::marker::Model;
 use std::sync::Arc;
-
-/// Why a row was not replaced.
-#[derive(Clone, Copy, Debug, PartialEq, Eq)]
-pub enum RowFault {
-    /// No row has the number.
-    Absent,
-    /// There was no memory.
-    Memory,
-}
 
 /// Rows by number, and beside them the numbers of rows by link and by key.
 type Parts = (Pages<(u64, Row)>, Pages<(LinkNo, u64)>, Pages<(Key, u64)>);
@@ -220,27 +213,6 @@ impl Table {
     }
 
     /// Puts a row at the end and gives its number, which no row had before: the table has fewer than 1,000,000 rows, and its next
-    /// row number is below 2 to the 63rd. An `Err` gives the row back, so the table gets a copy of it: `put_next` spares that. The
-    /// cost grows with the logarithm of the number of rows.
-    pub fn insert(&mut self, row: Row) -> Result<u64, (Row, Memory)>
-        requires few { length self.old.rows < most_rows }
-        requires small { self.old.next < row_numbers }
-        ensures ok { IfOk result (λ number. (number ≡ self.old.next) × (self.new ≡ with_inserted self.old row)) }
-        ensures err { IfErr result (λ e. (e.0 ≡ row) × (self.new ≡ self.old)) }
-    {
-        match row.copy() {
-            Ok(copy) => match self.put_next(copy) {
-                Ok(number) => {
-                    drop(row);
-                    Ok(number)
-                }
-                Err(memory) => Err((row, memory)),
-            },
-            Err(memory) => Err((row, memory)),
-        }
-    }
-
-    /// Puts a row at the end and gives its number, which no row had before: the table has fewer than 1,000,000 rows, and its next
     /// row number is below 2 to the 63rd. After an `Err` the table is as it was. The cost grows with the logarithm of the number
     /// of rows.
     pub fn put_next(&mut self, row: Row) -> Result<u64, Memory>
@@ -265,31 +237,6 @@ impl Table {
         Ok(number)
     }
 
-    /// Puts a row in the place of that of a number, and gives a copy of that one. An `Err` gives the row back, so the table gets a
-    /// copy of it: `set` spares both. The cost grows with the logarithm of the number of rows.
-    pub fn replace(&mut self, number: u64, row: Row) -> Result<Row, (Row, RowFault)>
-        ensures ok { IfOk result (λ before. (row_of self.old.rows number ≡ Some before) × (self.new ≡ record self.old { rows = with_row self.old.rows number row })) }
-        ensures err { IfErr result (λ e. (e.0 ≡ row) × (self.new ≡ self.old)) }
-        ensures absent { IfErr result (λ e. (e.1 ≡ RowFault.Absent) ↔ (row_of self.old.rows number ≡ None)) }
-    {
-        match self.place(number) {
-            Some(place) => match copies(&self.rows, place, &row) {
-                Ok((before, copy)) => match self.exchange(place, number, copy) {
-                    Ok(()) => {
-                        drop(row);
-                        Ok(before)
-                    }
-                    Err(_) => {
-                        drop(before);
-                        Err((row, RowFault::Memory))
-                    }
-                },
-                Err(_) => Err((row, RowFault::Memory)),
-            },
-            None => Err((row, RowFault::Absent)),
-        }
-    }
-
     /// Puts a row in the place of that of a number; false where no row has the number, and then nothing has changed. After an
     /// `Err` the table is as it was. The cost grows with the logarithm of the number of rows.
     #[tactic(auto, using(crate::proofs::Numbers::is_there))]
@@ -304,23 +251,6 @@ impl Table {
                 Ok(true)
             }
             None => Ok(false),
-        }
-    }
-
-    /// Takes the row of a number out and gives a copy of it; None where no row has the number. `unset` spares the copy. The cost
-    /// grows with the logarithm of the number of rows.
-    pub fn remove(&mut self, number: u64) -> Result<Option<Row>, Memory>
-        ensures found { IfOk result (λ row. row ≡ row_of self.old.rows number) }
-        ensures ok { OnOk result (self.new ≡ record self.old { rows = without_row self.old.rows number }) }
-        ensures err { OnErr result (self.new ≡ self.old) }
-    {
-        match self.place(number) {
-            Some(place) => {
-                let before = copy_at(&self.rows, place)?;
-                self.take_out(place, number)?;
-                Ok(Some(before))
-            }
-            None => Ok(None),
         }
     }
 
@@ -439,10 +369,20 @@ fn exchanged(
 {
     let alloc = columns.allocator();
     let before = &rows.item(place).1;
-    let left = without_marks(alloc, links, row_marks(columns, before)?, number)?;
-    let links = with_marks(alloc, &left, row_marks(columns, &row)?, number)?;
-    let kept = without_marks(alloc, keys, row_keys(columns, before)?, number)?;
-    let keys = with_marks(alloc, &kept, row_keys(columns, &row)?, number)?;
+    let links = with_other_marks(
+        alloc,
+        links,
+        row_marks(columns, before)?,
+        row_marks(columns, &row)?,
+        number,
+    )?;
+    let keys = with_other_marks(
+        alloc,
+        keys,
+        row_keys(columns, before)?,
+        row_keys(columns, &row)?,
+        number,
+    )?;
     let rows = swapped(alloc, rows, place, number, row)?;
     Ok((rows, links, keys))
 }
@@ -505,25 +445,6 @@ fn dropped(
 {
     let _ = number;
     rows.removed(alloc, place)
-}
-
-// A copy of the row at a place.
-fn copy_at(rows: &Pages<(u64, Row)>, place: usize) -> Result<Row, Memory>
-    requires { place < length rows.now }
-    ensures { IfOk result (λ made. option_map (λ r. r.1) (slice_get rows.now place) ≡ Some made) }
-{
-    rows.item(place).1.copy()
-}
-
-// A copy of the row at a place, and one of a row that takes its place.
-fn copies(rows: &Pages<(u64, Row)>, place: usize, row: &Row) -> Result<(Row, Row), Memory>
-    requires { place < length rows.now }
-    ensures before { IfOk result (λ made. option_map (λ r. r.1) (slice_get rows.now place) ≡ Some made.0) }
-    ensures after { IfOk result (λ made. made.1 ≡ row.now) }
-{
-    let before = copy_at(rows, place)?;
-    let after = row.copy()?;
-    Ok((before, after))
 }
 
 impl Copied for Table {

@@ -85,7 +85,7 @@ fn looks_like(files: &Files, path: &Path, file: &File) -> bool {
 
 /// Whether a command is refused because of another owner, of this name.
 fn is_of(files: &Files, cmd: &FileCmd, owner: &[u8]) -> bool {
-    match files.test(cmd) {
+    match files.test(cmd, None) {
         Ok(Some(FileRefusal::NotOwner(_, name))) => name.bytes() == owner,
         _ => false,
     }
@@ -121,7 +121,7 @@ fn made_beside(alloc: Global, bench: &mut MemoryBench, cmd: FileCmd) -> bool
 {
     match Files::begin(alloc, bench, 1_000) {
         Ok(mut files) => {
-            let is_free = matches!(files.test(&cmd), Ok(None));
+            let is_free = matches!(files.test(&cmd, None), Ok(None));
             is_free && files.apply(bench, cmd).is_ok() && is_created(alloc, &files) == Some(true)
         }
         Err(_) => false,

@@ -3,7 +3,7 @@
 use Rattle.std.proofs.Common.{◌≡◌, ℕ, ◌+◌, ◌-◌, ◌<◌, ◌≤◌, List, [], ◌∷◌, length, get_or, take, drop, slice_set, Some, ◌∙◌, refl, sym, ap, subst, arith}
 use Rattle.std.proofs.lemmas.List.{drop-drop, drop_more}
 use Rattle.dl_base.specs.declared.area.Area.{Area}
-use Rattle.dl_base.specs.Outside.{Outside, Touches, Says, Torn, TornFrom}
+use Rattle.dl_base.specs.Outside.{Touches, Says, Torn, TornFrom}
 use Rattle.dl_base.specs.Sources.{Took}
 use Rattle.dl_base.proofs.Moments.{touches_none, touches_more}
 use Rattle.dl_host.specs.Hosts.{with_faults}

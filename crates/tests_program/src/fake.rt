@@ -1,7 +1,7 @@
 //! A folder and a stream in memory, which tell their content, and give what a system may give: short calls, interrupted
 //! ones, failing ones, no more room. They show that the clauses of `Host` and `Reader` can be met with content.
-ghost use Rattle.std.specs.Prelude.{◌≡◌, ◌==◌, ◌&&◌, ◌≤◌, nat_lt, true, is_err, Err};
-ghost use Rattle.dl_host.specs.Hosts.{with_faults, count_after};
+ghost use Rattle.std.specs.Prelude.{◌≡◌, ◌==◌, ◌&&◌, ◌≤◌, nat_lt, true, Err};
+ghost use Rattle.dl_host.specs.Hosts.{with_faults, count_after, is_fault, is_interruption, has_failed, was_interrupted};
 ghost use Rattle.dl_host.specs.Laws.{lawful_counted};
 ghost use Rattle.dl_bench.specs.Tallies.{faults};
 ghost use Rattle.dl_bench.specs.Traces.{seen};
@@ -22,7 +22,7 @@ pub struct Plan {
     pub room: usize,
     /// Calls of this letter fail.
     pub failing: u8,
-    /// Each read, write and tell is interrupted once.
+    /// Each call is interrupted once.
     pub interrupts: bool,
     interrupted: bool,
 }
@@ -44,11 +44,6 @@ impl Plan {
         if self.calls.push(letter).is_err() || self.failing == letter {
             return Err(Stop::Failed);
         }
-        Ok(())
-    }
-
-    fn note_part(&mut self, letter: u8) -> Result<(), Stop> {
-        self.note(letter)?;
         self.interrupted = self.interrupts && !self.interrupted;
         if self.interrupted {
             return Err(Stop::Interrupted);
@@ -65,6 +60,7 @@ pub struct FakeHost {
     is_locked: bool,
     is_named: bool,
     faults: u64,
+    interruptions: u64,
 }
 
 impl FakeHost {
@@ -76,6 +72,7 @@ impl FakeHost {
             is_locked: false,
             is_named: false,
             faults: 0,
+            interruptions: 0,
         })
     }
 
@@ -95,32 +92,20 @@ impl FakeHost {
         &self.plan.calls
     }
 
-    /// Begins a call. One that fails is counted.
+    /// Begins a call. One that fails is counted, and one that is interrupted.
     fn begin(&mut self, letter: u8) -> Result<(), Stop>
         ensures bench { self.new.bench ≡ self.old.bench }
         ensures lock { self.new.is_locked ≡ self.old.is_locked }
         ensures names { self.new.is_named ≡ self.old.is_named }
-        ensures faults { self.new.faults ≡ count_after (is_err result) self.old.faults }
+        ensures faults { self.new.faults ≡ count_after (has_failed result) self.old.faults }
+        ensures interruptions { self.new.interruptions ≡ count_after (was_interrupted result) self.old.interruptions }
         ensures later { self.old.faults ≤ self.new.faults }
     {
         let begun = self.plan.note(letter);
-        if begun.is_err() {
-            self.faults = self.faults.saturating_add(1);
-        }
-        begun
-    }
-
-    /// The same of a call that may be interrupted.
-    fn begin_part(&mut self, letter: u8) -> Result<(), Stop>
-        ensures bench { self.new.bench ≡ self.old.bench }
-        ensures lock { self.new.is_locked ≡ self.old.is_locked }
-        ensures names { self.new.is_named ≡ self.old.is_named }
-        ensures faults { self.new.faults ≡ count_after (is_err result) self.old.faults }
-        ensures later { self.old.faults ≤ self.new.faults }
-    {
-        let begun = self.plan.note_part(letter);
-        if begun.is_err() {
-            self.faults = self.faults.saturating_add(1);
+        match begun {
+            Ok(()) => {}
+            Err(Stop::Interrupted) => self.interruptions = self.interruptions.saturating_add(1),
+            Err(Stop::Failed) => self.faults = self.faults.saturating_add(1),
         }
         begun
     }
@@ -131,6 +116,7 @@ impl FakeHost {
         ensures lock { self.new.is_locked ≡ self.old.is_locked }
         ensures names { self.new.is_named ≡ self.old.is_named }
         ensures faults { self.new.faults ≡ count_after ((count == 0) && nat_lt 0 asked) self.old.faults }
+        ensures interruptions { self.new.interruptions ≡ self.old.interruptions }
         ensures later { self.old.faults ≤ self.new.faults }
     {
         if count == 0 && asked > 0 {
@@ -145,6 +131,7 @@ impl FakeHost {
         ensures lock { self.new.is_locked ≡ self.old.is_locked }
         ensures names { self.new.is_named ≡ self.old.is_named }
         ensures faults { self.new.faults ≡ count_after true self.old.faults }
+        ensures interruptions { self.new.interruptions ≡ self.old.interruptions }
         ensures later { self.old.faults ≤ self.new.faults }
     {
         self.faults = self.faults.saturating_add(1);
@@ -156,6 +143,8 @@ impl Host for FakeHost {
     type File = Area;
 
     ghost outside = { λ h. with_faults h.faults (seen h.bench) };
+
+    ghost interruptions = { λ h. h.interruptions };
 
     ghost hold = { λ h. record { has_lock = h.is_locked; is_named = λ a. h.is_named } };
 
@@ -184,7 +173,7 @@ impl Host for FakeHost {
     }
 
     fn read_at(&mut self, file: &Area, at: u64, into: &mut [u8]) -> Result<usize, Stop> {
-        self.begin_part(b'r')?;
+        self.begin(b'r')?;
         let kept = self.bench.area(*file);
         let from = (at as usize).min(kept.len());
         let count = self.plan.most.min(into.len()).min(kept.len() - from);
@@ -194,7 +183,7 @@ impl Host for FakeHost {
     }
 
     fn write_at(&mut self, file: &Area, at: u64, bytes: &[u8]) -> Result<usize, Stop> {
-        self.begin_part(b'w')?;
+        self.begin(b'w')?;
         let room = self.plan.room.saturating_sub(at as usize);
         let count = self.plan.most.min(room).min(bytes.len());
         match self.bench.write(*file, at, &bytes[..count]) {
@@ -215,7 +204,7 @@ impl Host for FakeHost {
     }
 
     fn tell(&mut self, bytes: &[u8]) -> Result<usize, Stop> {
-        self.begin_part(b't')?;
+        self.begin(b't')?;
         let count = self.plan.most.min(bytes.len());
         match self.bench.say(&bytes[..count]) {
             Ok(()) => {
@@ -237,6 +226,7 @@ pub struct FakeReader {
     fails: bool,
     interrupted: bool,
     faults: u64,
+    interruptions: u64,
 }
 
 impl FakeReader {
@@ -247,6 +237,7 @@ impl FakeReader {
             fails,
             interrupted: false,
             faults: 0,
+            interruptions: 0,
         }
     }
 
@@ -254,9 +245,13 @@ impl FakeReader {
         ensures err { result ≡ Err why }
         ensures bytes { self.new.bytes ≡ self.old.bytes }
         ensures at { self.new.at ≡ self.old.at }
-        ensures faults { self.new.faults ≡ count_after true self.old.faults }
+        ensures faults { self.new.faults ≡ count_after (is_fault why) self.old.faults }
+        ensures interruptions { self.new.interruptions ≡ count_after (is_interruption why) self.old.interruptions }
     {
-        self.faults = self.faults.saturating_add(1);
+        match why {
+            Stop::Interrupted => self.interruptions = self.interruptions.saturating_add(1),
+            Stop::Failed => self.faults = self.faults.saturating_add(1),
+        }
         Err(why)
     }
 }
@@ -267,6 +262,8 @@ impl Reader for FakeReader {
     ghost rest = { λ r. Some (drop r.at r.bytes.now) };
 
     ghost faults = { λ r. r.faults };
+
+    ghost interruptions = { λ r. r.interruptions };
 
     fn read(&mut self, into: &mut [u8]) -> Result<usize, Stop> {
         self.interrupted = !self.interrupted;

@@ -66,7 +66,8 @@ fn a_whole_run(rt: HostRuntime) {
     assert!(rt; end.is_some_and(|end| end.begins_once));
 }
 
-/// Whether a run is whole whose calls do so many bytes at most, each behind an interrupted one.
+/// Whether a run is whole whose calls do so many bytes at most, each behind an interrupted one: that of the lock, of the
+/// opening, of each sync and of the length too.
 fn is_whole_by(alloc: Global, most: usize) -> Option<bool> {
     let mut plan = Plan::new(alloc);
     plan.most = most;

@@ -12,6 +12,21 @@ pub fn first_record() -> &'static [u8] {
     b"\x01\0\0\0\0\0\0\0\x24\x01\0\0\0\0\0\0\0\0\0\0\0\x01\x01\0\0\0\x02/a\0\0\0\x03ann\x01\0\0\0\0\x03one\0"
 }
 
+/// The same after `@ann rename /a /b`, a removal and a put, and `@ann chmod /b off`, a new owner and no saved one.
+fn renamed_files() -> &'static [u8] {
+    b"\x01\0\0\0\0\0\0\0\x24\x01\0\0\0\0\0\0\0\0\0\0\0\x01\x01\0\0\0\x02/a\0\0\0\x03ann\x01\0\0\0\0\x03one\
+      \x01\0\0\0\0\0\0\0\x2b\x01\0\0\0\0\0\0\0\0\0\0\0\x02\0\0\0\0\x02/a\x01\0\0\0\x02/b\0\0\0\x03ann\x01\0\0\0\0\x03one\
+      \x01\0\0\0\0\0\0\0\x1d\x01\0\0\0\0\0\0\0\0\0\0\0\x01\x02\0\0\0\x02/b\0\0\0\x03ann\0\0\0"
+}
+
+fn renaming_script() -> &'static [u8] {
+    b"@ann rename /a /b\n@ann chmod /b off\n@ann write /b x\n"
+}
+
+fn renaming_text() -> &'static [u8] {
+    b"1: ok\n2: ok\n3: refused read only /b\n"
+}
+
 fn first_script() -> &'static [u8] {
     b"@ann create /a one\n@ann read /a\n"
 }
@@ -125,6 +140,21 @@ fn the_first_run_and_a_second_one(rt: HostRuntime) {
     assert_eq!(rt; left, Some(((0, 0), true)));
 }
 
+#[test]
+fn a_rename_and_a_chmod_found_again(rt: HostRuntime) {
+    let first = (b"run".as_slice(), renaming_script(), first_record());
+    let left = run_leaves(rt.alloc(), first, (renaming_text(), renamed_files()));
+    assert_eq!(rt; left, Some(((0, 0), true)));
+    let second = (
+        b"run".as_slice(),
+        b"@bob list\n@bob read /a".as_slice(),
+        renamed_files(),
+    );
+    let told = b"1: ok files 1\n1| /b ann off 3\n2: refused no file /a\n";
+    let left = run_leaves(rt.alloc(), second, (told, renamed_files()));
+    assert_eq!(rt; left, Some(((0, 0), true)));
+}
+
 /// With no room for the record the area has a closed gate alone.
 #[test]
 fn the_limit_of_the_area(rt: HostRuntime) {
@@ -229,7 +259,7 @@ fn deletion(alloc: Global) -> Option<FileCmd> {
 fn is_accepted(alloc: Global) -> Option<bool> {
     let files = first_files(alloc)?;
     let delete = deletion(alloc)?;
-    Some(matches!(files.test(&delete), Ok(None)))
+    Some(matches!(files.test(&delete, None), Ok(None)))
 }
 
 #[test]

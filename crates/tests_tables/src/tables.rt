@@ -4,7 +4,7 @@ use dl_base::{
     Column, ColumnRule, Copied, Dl, Kind, LinkNo, LinkRow, List, Name, OnUnlink, Options, Path,
     ReadBy, Row, Same, Text, Value, WriteBy, is_name, is_path,
 };
-use sql_table::{RowFault, Table, Tables, gives_takes, links};
+use sql_table::{Table, Tables, gives_takes, links};
 use std::alloc::Global;
 
 // A key, and the number of a link; a transaction of 0 stands for NULL.
@@ -172,27 +172,11 @@ fn set(alloc: Global, number: u64) -> Option<(bool, Option<i64>)> {
     Some((found, keys(&table)))
 }
 
-// The row that was there, or whether it was absent.
-fn replaced(table: &mut Table, number: u64, row: Row) -> (Option<i64>, bool) {
-    match table.replace(number, row) {
-        Ok(before) => (key_of(&before), false),
-        Err((_, fault)) => (None, fault == RowFault::Absent),
-    }
-}
-
-fn replace(alloc: Global, number: u64) -> Option<((Option<i64>, bool), Option<i64>)> {
-    let mut table = three(alloc)?;
-    let answer = replaced(&mut table, number, row(alloc, (7, 0, 0))?);
-    Some((answer, keys(&table)))
-}
-
 #[test]
 fn a_row_takes_the_place_of_another(rt: HostRuntime) {
     let alloc = rt.alloc();
     assert_eq!(rt; set(alloc, 2), Some((true, Some(173))));
     assert_eq!(rt; set(alloc, 4), Some((false, Some(123))));
-    assert_eq!(rt; replace(alloc, 2), Some(((Some(2), false), Some(173))));
-    assert_eq!(rt; replace(alloc, 4), Some(((None, true), Some(123))));
 }
 
 // Takes the row of a number out, and puts one more.
@@ -203,31 +187,12 @@ fn unset(alloc: Global, number: u64) -> Option<(bool, u64, u64)> {
     Some((found, next, numbers(&table)))
 }
 
-fn removed(table: &mut Table, number: u64) -> Option<i64> {
-    key_of(&table.remove(number).ok()??)
-}
-
-fn remove(alloc: Global, number: u64) -> Option<(Option<i64>, Option<i64>)> {
-    let mut table = three(alloc)?;
-    let key = removed(&mut table, number);
-    Some((key, keys(&table)))
-}
-
 #[test]
 fn the_number_of_a_row_that_went_is_not_drawn_again(rt: HostRuntime) {
     let alloc = rt.alloc();
     assert_eq!(rt; unset(alloc, 3), Some((true, 4, 124)));
     assert_eq!(rt; unset(alloc, 5), Some((false, 4, 1234)));
-    assert_eq!(rt; remove(alloc, 2), Some((Some(2), Some(13))));
-    assert_eq!(rt; remove(alloc, 4), Some((None, Some(123))));
-}
-
-fn inserted(table: &mut Table, row: Row) -> Option<u64> {
-    if table.len() < MOST_ROWS && table.next_number() < ROW_NUMBERS {
-        table.insert(row).ok()
-    } else {
-        None
-    }
+    assert_eq!(rt; unset(alloc, 2), Some((true, 4, 134)));
 }
 
 // The rows 2 and 5 of a table whose next number is 9, and one more.
@@ -236,7 +201,7 @@ fn given(alloc: Global) -> Option<(u64, u64)> {
     rows.push((2, row(alloc, (1, 0, 0))?)).ok()?;
     rows.push((5, row(alloc, (2, 0, 0))?)).ok()?;
     let mut table = Table::with_rows(3, columns(alloc)?, 9, rows).ok()?;
-    let number = inserted(&mut table, row(alloc, (3, 0, 0))?)?;
+    let number = put(&mut table, row(alloc, (3, 0, 0))?)?;
     Some((number, numbers(&table)))
 }
 

@@ -2,7 +2,6 @@ use Rattle.std.proofs.Common.{◌≡◌, ◌-◌, List, ℕ, length, ◌∙◌, 
 use borrow.Rule.Slice.PartMut.{put_mid}
 use Rattle.dl_base.specs.Outside.{portion}
 use Rattle.dl_host.proofs.Loops.{touches_still, stays_then, within_rest, filled_rest, long_rest, length_rest}
-use Rattle.dl_host.proofs.Turns.{spent_on}
 use Rattle.dl_host.proofs.calls.read_all.Goals as goal
 
 pub returns-in-Err-clause-crash : goal.returns-in-Err-clause-crash
@@ -21,10 +20,9 @@ more-preserved g c =
     let long' : length part ≡ length into - c.more.done = c.read_some.auto.into ∙ long_rest c.more.done into in
     let long : length (put_mid c.more.done (length into - c.more.done) into part) ≡ length into = length_rest c.more.done into part c.more.invariant.within long' in
     record {
-      within = omega (arith, long, within_rest c.more.done c.in-Ok.count into c.more.invariant.within c.in-Ok.ensures.count);
-      spent = spent_on c.more._turn c.more.done c.in-Ok.count o.faults m.faults n.faults c.read_some.ensures.crash.faults c.more.invariant.spent c.in-Ok.ensures.moves;
+      within = omega (arith, long, within_rest c.more.done c.in-Ok.count into c.more.invariant.within c.in-Ok.ensures.count.1);
       long = long ∙ c.more.invariant.long;
-      filled = λ bytes is. filled_rest c.args.at c.more.done c.in-Ok.count into part bytes c.more.invariant.within long' c.in-Ok.ensures.count (c.more.invariant.filled bytes is) (c.in-Ok.ensures.bytes bytes (c.more.invariant.same ∙ is) ∙ ap (λ (k : ℕ). portion k c.in-Ok.count bytes) c.in-Some.ensures.1);
+      filled = λ bytes is. filled_rest c.args.at c.more.done c.in-Ok.count into part bytes c.more.invariant.within long' c.in-Ok.ensures.count.1 (c.more.invariant.filled bytes is) (c.in-Ok.ensures.bytes bytes (c.more.invariant.same ∙ is) ∙ ap (λ (k : ℕ). portion k c.in-Ok.count bytes) c.in-Some.ensures.1);
       same = c.read_some.ensures.same ∙ c.more.invariant.same;
       crash = touches_still area (o.image area) o m n c.more.invariant.crash c.read_some.ensures.crash;
       locked = c.read_some.ensures.stays.lock c.more.invariant.locked;

@@ -1,7 +1,6 @@
-use Rattle.std.proofs.Common.{◌≡◌, ℕ, ◌≤◌, List, length, take, true, Some}
+use Rattle.std.proofs.Common.{◌≡◌, ℕ, ◌-◌, ◌≤◌, List, length, take, true, Some}
 use Rattle.dl_base.specs.Outside.{Touches, portion}
 use Rattle.dl_host.specs.Hosts.{Stays}
-use Rattle.dl_host.proofs.Turns.{Spent}
 use Rattle.dl_host.proofs.calls.read_all.Given as goal
 
 abbrev pub invariant-more : goal.invariant-more
@@ -11,7 +10,6 @@ invariant-more g l =
     let n = g.H.Host.outside l.host in
     record {
       within : l.done ≤ length l.into;
-      spent : Spent l._turn l.done o.faults n.faults;
       long : length l.into ≡ length l.initial.into;
       filled : (c : List ℕ) → o.reads area ≡ Some c → take l.done l.into ≡ portion l.at l.done c;
       same : n.reads area ≡ o.reads area;
@@ -19,3 +17,6 @@ invariant-more g l =
       locked : (g.H.Host.hold l.host).has_lock ≡ true;
       stays : Stays (g.H.Host.hold l.initial.host) (g.H.Host.hold l.host);
     }
+
+abbrev pub decreases-more : goal.decreases-more
+decreases-more g l = length l.into - l.done

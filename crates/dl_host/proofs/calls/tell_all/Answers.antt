@@ -1,6 +1,5 @@
 use Rattle.std.proofs.Common.{List, ℕ}
 use Rattle.dl_host.proofs.Loops.{said_rest, told_rest, within_rest, stays_then}
-use Rattle.dl_host.proofs.Turns.{spent_on}
 use Rattle.dl_host.proofs.calls.tell_all.Goals as goal
 
 pub returns-in-Err-clause-crash : goal.returns-in-Err-clause-crash
@@ -14,8 +13,7 @@ more-preserved g c =
     let n = g.H.Host.outside c.tell_some.new.host in
     let bytes : List ℕ = c.args.bytes.now in
     record {
-      within = within_rest c.more.done c.in-Ok.count bytes c.more.invariant.within c.in-Ok.ensures.count;
-      spent = spent_on c.more._turn c.more.done c.in-Ok.count o.faults m.faults n.faults c.tell_some.ensures.crash.faults c.more.invariant.spent c.in-Ok.ensures.moves;
+      within = within_rest c.more.done c.in-Ok.count bytes c.more.invariant.within c.in-Ok.ensures.count.1;
       told = told_rest bytes c.more.done c.in-Ok.count o.told m.told n.told c.more.invariant.told c.in-Ok.ensures.told;
       crash = said_rest bytes c.more.done o m n c.more.invariant.told c.more.invariant.crash c.tell_some.ensures.crash;
       locked = c.tell_some.ensures.stays.lock c.more.invariant.locked;

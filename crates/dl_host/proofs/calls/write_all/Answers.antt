@@ -1,6 +1,5 @@
 use Rattle.std.proofs.Common.{List, ℕ}
 use Rattle.dl_host.proofs.Loops.{touches_rest, written_rest, within_rest, stays_then}
-use Rattle.dl_host.proofs.Turns.{spent_on}
 use Rattle.dl_host.proofs.calls.write_all.Goals as goal
 
 pub returns-in-Err-clause-crash : goal.returns-in-Err-clause-crash
@@ -16,8 +15,7 @@ more-preserved g c =
     let n = g.H.Host.outside c.write_some.new.host in
     let bytes : List ℕ = c.args.bytes.now in
     record {
-      within = within_rest c.more.done c.in-Ok.count bytes c.more.invariant.within c.in-Ok.ensures.count;
-      spent = spent_on c.more._turn c.more.done c.in-Ok.count o.faults m.faults n.faults c.write_some.ensures.crash.faults c.more.invariant.spent c.in-Ok.ensures.moves;
+      within = within_rest c.more.done c.in-Ok.count bytes c.more.invariant.within c.in-Ok.ensures.count.1;
       written = written_rest c.args.at c.more.done c.in-Ok.count bytes (o.reads area) (m.reads area) (n.reads area) c.more.invariant.within c.requires.begins c.more.invariant.written c.in-Ok.ensures.written;
       crash = touches_rest area c.args.at c.more.done bytes o m n c.more.invariant.within c.more.invariant.crash c.write_some.ensures.crash;
       locked = c.write_some.ensures.stays.lock c.more.invariant.locked;

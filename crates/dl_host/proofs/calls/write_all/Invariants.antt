@@ -1,7 +1,6 @@
-use Rattle.std.proofs.Common.{◌≡◌, ◌≤◌, length, take, true}
+use Rattle.std.proofs.Common.{◌≡◌, ◌-◌, ◌≤◌, length, take, true}
 use Rattle.dl_base.specs.Outside.{Touches, Torn, overwritten}
 use Rattle.dl_host.specs.Hosts.{Stays}
-use Rattle.dl_host.proofs.Turns.{Spent}
 use Rattle.dl_host.proofs.calls.write_all.Given as goal
 
 abbrev pub invariant-more : goal.invariant-more
@@ -11,9 +10,11 @@ invariant-more g l =
     let n = g.H.Host.outside l.host in
     record {
       within : l.done ≤ length l.bytes;
-      spent : Spent l._turn l.done o.faults n.faults;
       written : n.reads area ≡ overwritten l.at (take l.done l.bytes) (o.reads area);
       crash : Touches area (Torn l.at (length l.bytes) (o.image area)) o n;
       locked : (g.H.Host.hold l.host).has_lock ≡ true;
       stays : Stays (g.H.Host.hold l.initial.host) (g.H.Host.hold l.host);
     }
+
+abbrev pub decreases-more : goal.decreases-more
+decreases-more g l = length l.bytes - l.done

@@ -1,6 +1,6 @@
 use Rattle.std.proofs.Common.{◌≡◌}
 use Rattle.std.specs.Vec.Iter.{into_iter_items}
-use Rattle.meaning_areas.specs.FilesArea.{with_changes}
+use Rattle.meaning_files.specs.Files.{with_changes}
 use Rattle.fs_files.proofs.fold.change_all.Given as goal
 
 -- what is left makes of the files so far what all changes make of the first

@@ -1,3 +1,5 @@
+use Rattle.std.proofs.Common.{ap}
+use Rattle.meaning_areas.specs.Commits.{Commit}
 use Rattle.meaning_areas.proofs.Deciding.{joint-decided, joint-finished, joint-kept, joint-backed_up}
 use Rattle.meaning_areas.proofs.Steps.{joint-begun, joint-prepared, joint-voted, joint-aborted, joint-ended}
 use Rattle.meaning_areas.proofs.Stops.{joint-manager, joint-database}
@@ -19,7 +21,7 @@ pub returns-clause-ended : goal.returns-clause-ended
 returns-clause-ended c f k tx w joint is = joint-ended f k joint tx w is
 
 pub returns-clause-decided : goal.returns-clause-decided
-returns-clause-decided c f k d w joint is = joint-decided f k joint d w is
+returns-clause-decided c f k d w joint is was made given taken = joint-decided f k joint d w is was (ap (λ (x : Commit). x.branch) made) given taken (ap (λ (x : Commit). x.gives) made) (ap (λ (x : Commit). x.takes) made)
 
 pub returns-clause-finished : goal.returns-clause-finished
 returns-clause-finished c f k tx w joint is = joint-finished f k joint tx w is

@@ -1,4 +1,5 @@
-use Rattle.meaning_system.proofs.Records.{command-taken, file-written, file-deleted, file-renamed, file-owned, backup-taken}
+use Rattle.meaning_areas.proofs.FilesLaws.{file-written, file-deleted, file-renamed, file-owned}
+use Rattle.meaning_system.proofs.Records.{command-taken, backup-taken}
 use Rattle.meaning_system.proofs.laws.commands_and_backups_are_taken.Goals as goal
 
 pub returns-clause-commands : goal.returns-clause-commands

@@ -5,7 +5,7 @@ use Rattle.sql_change.specs.Keys.{sets_key}
 use Rattle.sql_change.proofs.Unset.{unset_hold}
 use Rattle.sql_change.proofs.updating.set_rows.Goals as goal
 
-pub replaced-requires : goal.replaced-requires
-replaced-requires c = λ none.
+pub keys_differ-differ-requires-clause-unset : goal.keys_differ-differ-requires-clause-unset
+keys_differ-differ-requires-clause-unset c = λ none.
     unset_hold c.args.columns.now c.args.context.now c.args.table.now (option_list c.args.filter.now) c.args.places.now (map (λ s. s.1) c.args.sets.now) c.args.k c.in_ok-made.made.table c.in_ok-made.made.next c.in_ok-made.made.met c.requires.fits
     c.in_ok-made.ensures.put c.in_ok-made.ensures.others c.sets_key-keyed.result (c.sets_key-keyed.ensures ∙ ap (λ (x : List Column). sets_key x c.args.places.now) c.columns.ensures) none

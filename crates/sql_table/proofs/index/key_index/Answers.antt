@@ -1,4 +1,4 @@
-use Rattle.std.proofs.Common.{sym, subst}
+use Rattle.std.proofs.Common.{subst}
 use Rattle.sql_table.specs.Keys.{key_order, key_marks}
 use Rattle.sql_table.specs.Marks.{WithMarks}
 use Rattle.sql_table.proofs.First.{index_next}

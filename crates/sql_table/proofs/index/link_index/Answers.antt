@@ -1,4 +1,4 @@
-use Rattle.std.proofs.Common.{sym, subst}
+use Rattle.std.proofs.Common.{subst}
 use Rattle.dl_pages.specs.Orders.{link_order}
 use Rattle.sql_table.specs.Marks.{WithMarks, link_marks}
 use Rattle.sql_table.proofs.First.{index_next}

@@ -1,7 +1,6 @@
-use Rattle.std.proofs.Common.{◌≡◌, ◌+◌, ◌++◌, true, false, List, [], ◌∷◌, drop, sym, ap, ◌∙◌, append_assoc, rules}
-use Rattle.std.specs.List.{list_any}
+use Rattle.std.proofs.Common.{◌+◌, ◌++◌, List, [], ◌∷◌, drop, sym, ap, ◌∙◌, append_assoc}
 use Rattle.dl_base.specs.declared.value.LinkRow.{LinkRow}
-use Rattle.meaning_tables.specs.Links.{lacking, links, same_number}
+use Rattle.meaning_tables.specs.Links.{lacking, links}
 use Rattle.sql_table.proofs.RowLinks.{held, left, not_held}
 use Rattle.sql_table.proofs.link_rows.put_lacked.Goals as goal
 

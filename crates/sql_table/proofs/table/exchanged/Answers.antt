@@ -5,7 +5,7 @@ use Rattle.sql_table.proofs.table.exchanged.Goals as goal
 
 pub returns-clause-kept : goal.returns-clause-kept
 returns-clause-kept c =
-    kept_replaced c.args.columns.now c.args.next c.args.number c.args.rows.now c.in_ok-rows.rows c.args.links.now c.in_ok-left.left c.in_ok-links.links c.args.keys.now c.in_ok-kept.kept c.in_ok-keys.keys c.item.result.now.1 c.args.row
+    kept_replaced c.args.columns.now c.args.next c.args.number c.args.rows.now c.in_ok-rows.rows c.args.links.now c.in_ok-links.links c.args.keys.now c.in_ok-keys.keys c.item.result.now.1 c.args.row
     c.in_ok-row_marks.field-0 c.in_ok-row_marks-2.field-0 c.in_ok-row_keys.field-0 c.in_ok-row_keys-2.field-0
-    c.requires.kept (c.requires.at.found ∙ ap (option_map (λ r. r.1)) c.item.ensures) c.in_ok-row_marks.ensures c.in_ok-left.ensures c.in_ok-row_marks-2.ensures c.in_ok-links.ensures
-    c.in_ok-row_keys.ensures c.in_ok-kept.ensures c.in_ok-row_keys-2.ensures c.in_ok-keys.ensures c.in_ok-rows.ensures
+    c.requires.kept (c.requires.at.found ∙ ap (option_map (λ r. r.1)) c.item.ensures) c.in_ok-row_marks.ensures c.in_ok-row_marks-2.ensures c.in_ok-links.ensures
+    c.in_ok-row_keys.ensures c.in_ok-row_keys-2.ensures c.in_ok-keys.ensures c.in_ok-rows.ensures

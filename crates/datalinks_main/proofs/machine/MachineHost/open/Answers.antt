@@ -2,4 +2,4 @@ use Rattle.dl_host.proofs.Untold.{touches_untold}
 use Rattle.datalinks_main.proofs.machine.MachineHost.open.Goals as goal
 
 pub returns-in_err-file-clause-crash : goal.returns-in_err-file-clause-crash
-returns-in_err-file-clause-crash g c = touches_untold c.args.area _ c.args.self.now.faults c.counted.new.self.faults c.counted.ensures.later
+returns-in_err-file-clause-crash g c = touches_untold c.args.area _ c.args.self.now.counts.faults c.counted.new.self.counts.faults c.counted.ensures.later

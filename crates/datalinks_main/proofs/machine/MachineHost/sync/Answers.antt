@@ -2,4 +2,4 @@ use Rattle.dl_host.proofs.Untold.{touches_untold}
 use Rattle.datalinks_main.proofs.machine.MachineHost.sync.Goals as goal
 
 pub returns-clause-crash : goal.returns-clause-crash
-returns-clause-crash g c = touches_untold c.args.file.now.area _ c.args.self.now.faults c.counted.new.self.faults c.counted.ensures.later
+returns-clause-crash g c = touches_untold c.args.file.now.area _ c.args.self.now.counts.faults c.counted.new.self.counts.faults c.counted.ensures.later

@@ -1,7 +1,7 @@
 use Rattle.std.proofs.Common.{◌≡◌, ℕ, None, Some, subst, ap, sym, ◌∙◌}
 use Rattle.std.specs.List.{slice_get}
 use Rattle.dl_base.specs.declared.value.Row.{Row}
-use Rattle.meaning_tables.specs.Tables.{Rows, Rise, row_of}
+use Rattle.meaning_tables.specs.Tables.{Rows, row_of}
 use Rattle.sql_table.specs.Places.{IsPlace}
 use Rattle.sql_table.proofs.Numbers.{falls, hit, miss}
 use Rattle.sql_table.proofs.table.Table.place.Goals as goal

@@ -1,0 +1,14 @@
+pub mod Bools
+pub mod CellLaws
+pub mod Changing
+pub mod ColumnLaws
+pub mod Differ
+pub mod Fewer
+pub mod Keys
+pub mod Loops
+pub mod Rest
+pub mod RowLaws
+pub mod Seats
+pub mod Step
+pub mod Symmetric
+pub mod Taking

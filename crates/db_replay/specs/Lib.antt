@@ -1,0 +1,4 @@
+pub mod Columns
+pub mod Replaying
+pub mod Rows
+pub mod Standing

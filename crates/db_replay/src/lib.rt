@@ -1,0 +1,10 @@
+//! The changes of one commit of the area Rows, done to tables, or refused exactly as its fold refuses them.
+#![tactic(auto)]
+
+mod cells;
+mod columns;
+mod replaying;
+mod rows;
+mod standing;
+
+pub use replaying::replay;

@@ -1,0 +1,10 @@
+pub mod Fitting
+pub mod Doing
+pub mod Places
+pub mod Appending
+pub mod Ending
+pub mod Found
+pub mod Telling
+pub mod Opens
+pub mod Begins
+pub mod Batching

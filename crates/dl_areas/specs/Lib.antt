@@ -1,0 +1,4 @@
+pub mod Batch
+pub mod Lists
+pub mod Opening
+pub mod Writing

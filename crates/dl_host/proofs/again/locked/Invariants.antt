@@ -1,0 +1,7 @@
+use Rattle.std.proofs.Common.{[]}
+use Rattle.dl_host.proofs.Undone.{Untold}
+use Rattle.dl_host.proofs.again.locked.Given as goal
+
+abbrev pub invariant-again : goal.invariant-again
+invariant-again g l =
+    Untold [] (g.H.Host.outside l.initial.host) (g.H.Host.outside l.host) (g.H.Host.hold l.initial.host) (g.H.Host.hold l.host) l._turn (g.H.Host.interruptions l.host)

@@ -1,0 +1,15 @@
+use Rattle.std.proofs.Common.{arith}
+use Rattle.dl_host.proofs.Undone.{undone_none, undone_on}
+use Rattle.dl_host.proofs.Loops.{touches_still}
+use Rattle.dl_host.proofs.again.open_file.Goals as goal
+
+pub again-init : goal.again-init
+again-init g c =
+    let o = g.H.Host.outside c.args.host.now in
+    undone_none c.args.area (o.image c.args.area) o (g.H.Host.hold c.args.host.now) (g.H.Host.interruptions c.args.host.now) (λ c left. left) c.requires.locked
+
+pub again-preserved : goal.again-preserved
+again-preserved g c =
+    let o = g.H.Host.outside c.args.host.now in
+    undone_on c.again.invariant c.in-Err-Interrupted.field-0-is c.in-Err-Interrupted.ensures.interruptions (omega arith) c.open.ensures.same
+    (touches_still c.args.area (o.image c.args.area) o _ _ c.again.invariant.crash c.open.ensures.crash) c.open.ensures.stays

@@ -1,0 +1,7 @@
+use Rattle.dl_host.proofs.Undone.{Undone}
+use Rattle.dl_host.proofs.again.open_file.Given as goal
+
+abbrev pub invariant-again : goal.invariant-again
+invariant-again g l =
+    let o = g.H.Host.outside l.initial.host in
+    Undone l.area (o.image l.area) o (g.H.Host.outside l.host) (g.H.Host.hold l.initial.host) (g.H.Host.hold l.host) l._turn (g.H.Host.interruptions l.host)

@@ -1,0 +1,9 @@
+use Rattle.std.proofs.Common.{◌≡◌, true}
+use Rattle.dl_host.proofs.Undone.{Untold}
+use Rattle.dl_host.proofs.again.tell_some.Given as goal
+
+abbrev pub invariant-again : goal.invariant-again
+invariant-again g l = record {
+  locked : (g.H.Host.hold l.host).has_lock ≡ true;
+  untold : Untold l.bytes (g.H.Host.outside l.initial.host) (g.H.Host.outside l.host) (g.H.Host.hold l.initial.host) (g.H.Host.hold l.host) l._turn (g.H.Host.interruptions l.host);
+}

@@ -1,0 +1,12 @@
+use Rattle.std.proofs.Common.{◌≡◌, ◌≤◌, length}
+use Rattle.std.specs.Vec.Iter.{into_iter_items}
+use Rattle.fs_files.specs.Store.{changes_in}
+use Rattle.meaning_files.specs.Files.{with_changes}
+use Rattle.fs_files.proofs.fold.make_batch.Given as goal
+
+-- what is left makes of the files so far what all changes make of the first, and there is room for it
+abbrev pub invariant-loop-next : goal.invariant-loop-next
+invariant-loop-next l = record {
+  same : with_changes l.table.files (into_iter_items l.next-iterator) ≡ with_changes l.initial.table.files (changes_in l.fn.batch);
+  room : length (into_iter_items l.next-iterator) ≤ l.table.spare;
+}
