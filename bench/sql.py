@@ -98,6 +98,17 @@ def groups(rows):
     return table("t", rows), [("SELECT s, COUNT(*), SUM(v) FROM t GROUP BY s", "rows %d" % min(rows, 100))]
 
 
+def peak_of(pid):
+    """The peak of memory of a process so far, in bytes; 0 where that is not told. (What a wait tells has Python's own in it.)"""
+    try:
+        for text in pathlib.Path("/proc/%d/status" % pid).read_text().splitlines():
+            if text.startswith("VmHWM:"):
+                return int(text.split()[1]) * 1024
+    except OSError:
+        pass
+    return 0
+
+
 def ours(statements):
     """The best processor time of some runs of these statements, in seconds, and the peak of memory, in bytes."""
     given = "".join(text + "\n" for text, _ in statements).encode()
@@ -108,10 +119,14 @@ def ours(statements):
             source.write(given)
             source.seek(0)
             run = subprocess.Popen([str(PROGRAM)], stdin=source, stdout=told)
-            _, status, usage = os.wait4(run.pid, 0)
+            ended, status, usage = 0, 0, None
+            while not ended:
+                peak = max(peak, peak_of(run.pid))
+                ended, status, usage = os.wait4(run.pid, os.WNOHANG)
+                if not ended:
+                    time.sleep(0.002)
             run.returncode = os.waitstatus_to_exitcode(status)
             times.append(usage.ru_utime + usage.ru_stime)
-            peak = max(peak, usage.ru_maxrss * 1024)
             told.seek(0)
             lines = told.read().decode().splitlines()
         heads = [line for line in lines if line.partition(":")[0].isdigit()]
