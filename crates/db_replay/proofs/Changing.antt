@@ -1,6 +1,5 @@
 -- Changes of tables as they are done, and the columns of tables through them.
 use Rattle.std.proofs.Common.{◌≡◌, ℕ, ◌&&◌, Bool, true, false, cond, bytes_eq, List, [], ◌∷◌, ◌++◌, Option, Some, None, refl, sym, ap, ◌∙◌, subst}
-use Rattle.std.specs.List.{list_all}
 use Rattle.std.specs.Option.{option_and_then}
 use Rattle.std.proofs.lemmas.Bool.{and_from, and_parts}
 use Rattle.std.proofs.lemmas.List.Folds.{list_all-append}
@@ -13,7 +12,7 @@ use Rattle.meaning_areas.specs.Commits.{add_table, changed_rows, columns_stand, 
 use Rattle.meaning_areas.specs.Commits as commits
 use Rattle.meaning_tables.specs.Fits.{fits}
 use Rattle.meaning_tables.specs.Tables.{Rows, Tables, new_table, table_of, with_table, without_table}
-use Rattle.db_replay.specs.Replaying.{columns_stand_in, fitted}
+use Rattle.db_replay.specs.Replaying.{columns_stand_in}
 use Rattle.db_replay.specs.Standing.{stripped, without_all, without_changed}
 use Rattle.db_replay.proofs.Rest.{Test, change-named, changed, named, rest_fits}
 

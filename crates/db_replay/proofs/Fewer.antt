@@ -1,14 +1,12 @@
 -- Tables with fewer rows, which fit where those with more do.
-use Rattle.std.proofs.Common.{◌≡◌, ℕ, ◌&&◌, ◌||◌, Bool, true, false, not, cond, List, [], ◌∷◌, ◌++◌, map, Option, Some, None, is_none, refl, sym, ap, ◌∙◌, subst}
+use Rattle.std.proofs.Common.{◌≡◌, ℕ, ◌&&◌, Bool, true, false, not, cond, List, [], ◌∷◌, ◌++◌, map, Some, None, is_none, refl, sym, ◌∙◌, subst}
 use Rattle.std.specs.Cmp.Lexicographic.{pointwise}
 use Rattle.std.specs.List.{filter, flat_map, list_all, list_any}
 use Rattle.std.proofs.lemmas.Bool.{and_from, and_parts, not-true, not_from_false, or_from, or_parts}
 use Rattle.dl_base.specs.declared.column.Column.{Column}
-use Rattle.dl_base.specs.declared.value.LinkNo.{LinkNo}
 use Rattle.dl_base.specs.declared.value.LinkRow.{LinkRow}
 use Rattle.dl_base.specs.declared.value.Row.{Row}
 use Rattle.dl_base.specs.declared.value.Value.{Value}
-use Rattle.dl_base.specs.declared.value.Value.TheVariants as values
 use Rattle.meaning_tables.specs.Fits.{differ, fits, fits_columns, is_key, key_of, repeated, repeated_key, rows_fit, same_key, table_fits}
 use Rattle.meaning_tables.specs.Links.{links, row_links, same_number, table_links}
 use Rattle.meaning_tables.specs.Tables.{Rows, Tables}

@@ -2,10 +2,8 @@
 use Rattle.std.proofs.Common.{◌≡◌, ℕ, ◌==◌, ◌&&◌, ◌||◌, Bool, true, false, not, cond, bytes_eq, nat_lt, List, [], ◌∷◌, ◌++◌, map, Option, Some, None, refl, sym, ap, ◌∙◌, subst}
 use Rattle.std.specs.List.{filter, list_all, list_any}
 use Rattle.std.specs.Option.{option_and_then}
-use Rattle.std.proofs.lemmas.Bool.{and_from, and_parts, eq-eqb, eqb-true, not-true, not_from_false, or_parts, or_right}
-use Rattle.std.proofs.lemmas.List.Folds.{list_all-append}
+use Rattle.std.proofs.lemmas.Bool.{and_from, eq-eqb, eqb-true, or_right}
 use Rattle.std.proofs.lemmas.Slice.Eq.{bytes_eq-Decides}
-use Rattle.dl_base.specs.declared.column.Column.{Column}
 use Rattle.dl_base.specs.declared.value.Row.{Row}
 use Rattle.dl_base.specs.declared.value.Value.{Value}
 use Rattle.dl_codec.specs.declared.rows.RowChange.{RowChange}
@@ -14,8 +12,7 @@ use Rattle.dl_codec.specs.declared.rows.TableChange.TheVariants as changes
 use Rattle.meaning_areas.specs.Commits.{add_table, by_values, changed_rows, columns_stand, drop_table, kept_table, put_row, put_table, rising, with_row_changes, with_table_change, with_table_changes}
 use Rattle.meaning_areas.specs.Commits as commits
 use Rattle.meaning_tables.specs.Fits.{fits}
-use Rattle.meaning_tables.specs.Tables.{Rows, Tables, new_table, table_of, with_table, without_row, without_table}
-use Rattle.db_replay.specs.Replaying.{columns_stand_in}
+use Rattle.meaning_tables.specs.Tables.{Rows, Tables, table_of, with_table, without_row, without_table}
 use Rattle.db_replay.specs.Standing.{is_row, stripped, without_all, without_changed, without_rows}
 use Rattle.db_replay.proofs.Bools.{or_false}
 use Rattle.db_replay.proofs.Fewer.{Fewer, empty, goes, comes, stays, Part, part_filter, fewer_fit}

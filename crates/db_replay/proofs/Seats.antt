@@ -1,11 +1,11 @@
 -- A row taken out by name and number, where names differ and row numbers rise.
-use Rattle.std.proofs.Common.{◌≡◌, ℕ, ◌+◌, ◌<◌, ◌≤◌, ◌==◌, ◌&&◌, Bool, true, false, not, cond, bytes_eq, List, [], ◌∷◌, map, Option, Some, None, refl, sym, ap, ◌∙◌, arith}
+use Rattle.std.proofs.Common.{◌≡◌, ℕ, ◌+◌, ◌<◌, ◌==◌, ◌&&◌, Bool, true, false, not, cond, bytes_eq, List, [], ◌∷◌, map, Some, None, refl, sym, ap, ◌∙◌, arith}
 use Rattle.std.specs.Cmp.Lexicographic.{pointwise}
 use Rattle.std.specs.List.{AllByRecursion, IsDistinct, filter}
 use Rattle.std.proofs.lemmas.Bool.{eqb-true, ne_eqb}
 use Rattle.std.proofs.lemmas.Slice.Eq.{bytes_eq-Decides}
 use Rattle.dl_base.specs.declared.value.Row.{Row}
-use Rattle.meaning_tables.specs.Tables.{Rise, Rows, Tables, row_of, table_of, with_table, without_row}
+use Rattle.meaning_tables.specs.Tables.{Rise, Rows, Tables, table_of, with_table, without_row}
 use Rattle.db_replay.specs.Standing.{is_row, stripped}
 
 -- rows

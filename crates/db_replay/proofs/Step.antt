@@ -1,17 +1,16 @@
 -- Tables with one row fit where those without it do, and the row stands among theirs.
-use Rattle.std.proofs.Common.{◌≡◌, ℕ, ◌==◌, ◌&&◌, ◌||◌, Bool, true, false, not, cond, bytes_eq, List, [], ◌∷◌, ◌++◌, map, append_assoc, Option, Some, None, is_none, refl, sym, ap, ◌∙◌, subst}
+use Rattle.std.proofs.Common.{◌≡◌, ℕ, ◌==◌, ◌&&◌, ◌||◌, Bool, true, false, not, cond, bytes_eq, List, [], ◌∷◌, ◌++◌, map, append_assoc, Some, None, is_none, refl, sym, ap, ◌∙◌}
 use Rattle.std.specs.Cmp.Lexicographic.{pointwise}
 use Rattle.std.specs.List.{flat_map, list_all, list_any}
 use Rattle.std.proofs.lemmas.Grind.{flat_map-append}
 use Rattle.std.proofs.lemmas.List.{map-append}
-use Rattle.std.proofs.lemmas.List.Folds.{list_all-append, list_any-append, list_all-map}
 use Rattle.dl_base.specs.declared.column.Column.{Column}
 use Rattle.dl_base.specs.declared.value.LinkNo.{LinkNo}
 use Rattle.dl_base.specs.declared.value.LinkRow.{LinkRow}
 use Rattle.dl_base.specs.declared.value.Row.{Row}
 use Rattle.dl_base.specs.declared.value.Value.{Value}
 use Rattle.meaning_tables.specs.First.{first_number, has_key}
-use Rattle.meaning_tables.specs.Fits.{differ, fits, fits_columns, is_key, key_of, repeated, repeated_key, rows_fit, same_key, table_fits}
+use Rattle.meaning_tables.specs.Fits.{differ, fits, fits_columns, is_key, key_of, repeated, rows_fit, same_key, table_fits}
 use Rattle.meaning_tables.specs.Links.{links, row_links, same_number, table_links}
 use Rattle.meaning_tables.specs.Tables.{Rows, Tables, row_of, table_of, with_table, without_row}
 use Rattle.db_replay.specs.Columns.{rules_stand}

@@ -1,17 +1,12 @@
 -- A row is taken out of tables, and asked for among what is left.
-use Rattle.std.proofs.Common.{◌≡◌, ℕ, ◌==◌, ◌&&◌, Bool, true, false, cond, bytes_eq, List, [], ◌∷◌, Option, Some, None, Result, Ok, Err, OnOk, IfOk, refl, sym, ap, ◌∙◌, subst}
-use Rattle.std.specs.Cmp.Lexicographic.{pointwise}
-use Rattle.std.specs.List.{IsDistinct}
-use Rattle.std.specs.Map.{keys_of}
+use Rattle.std.proofs.Common.{◌≡◌, ℕ, ◌==◌, ◌&&◌, Bool, true, false, cond, bytes_eq, List, [], ◌∷◌, Option, Some, None, Result, Ok, Err, OnOk, IfOk, refl, sym, ap, ◌∙◌}
 use Rattle.dl_base.specs.declared.value.Row.{Row}
-use Rattle.meaning_areas.specs.Commits.{columns_stand}
 use Rattle.meaning_tables.specs.Fits.{fits}
-use Rattle.meaning_tables.specs.Tables.{Rise, Rows, Tables, row_of, table_of, with_table, without_row}
+use Rattle.meaning_tables.specs.Tables.{Rows, Tables, row_of, table_of, with_table, without_row}
 use Rattle.db_replay.specs.Replaying.{columns_stand_in}
-use Rattle.db_replay.specs.Standing.{is_row, row_at, row_in, row_stands_in, stripped, without_row_at, without_row_in}
+use Rattle.db_replay.specs.Standing.{row_at, row_in, row_stands_in, without_row_at, without_row_in}
 use Rattle.db_replay.proofs.Changing.{columns_found}
 use Rattle.db_replay.proofs.ColumnLaws.{rules_of}
-use Rattle.db_replay.proofs.Seats.{none_named, one_named}
 use Rattle.db_replay.proofs.Step.{step, there}
 
 -- where the row was there

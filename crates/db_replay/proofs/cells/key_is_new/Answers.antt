@@ -1,4 +1,4 @@
-use Rattle.std.proofs.Common.{◌≡◌, ◌+◌, ◌<◌, ◌&&◌, ℕ, Bool, true, false, not, drop, length, List, ◌∷◌, refl, sym, ap, ◌∙◌, arith, rules, is_none, is_some}
+use Rattle.std.proofs.Common.{◌≡◌, ◌+◌, ◌&&◌, Bool, false, not, drop, List, ◌∷◌, sym, ap, ◌∙◌, rules, is_none, is_some}
 use Rattle.std.specs.List.{list_all}
 use Rattle.dl_base.specs.declared.column.Column.{Column}
 use Rattle.dl_base.specs.declared.value.Value.{Value}
