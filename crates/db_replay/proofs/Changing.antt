@@ -22,7 +22,7 @@ name-self n = (bytes_eq-Decides n n).1 refl
 -- a new table is one without rows, which is then changed
 
 module _ (name : List ℕ) (t : Rows) where
-  found-last : (ts : Tables) → table_of ts name ≡ None → table_of (ts ++ (name, t) ∷ []) name ≡ Some t
+  pub found-last : (ts : Tables) → table_of ts name ≡ None → table_of (ts ++ (name, t) ∷ []) name ≡ Some t
   found-last [] none = ap (λ b. cond b (Some t) None) (name-self name)
   found-last (x ∷ xs) none = by (bytes_eq name x.0) none (λ e. found-last xs e)
     where
@@ -30,7 +30,7 @@ module _ (name : List ℕ) (t : Rows) where
       by true e go = cc e
       by false e go = go e
 
-  put-last : (ts : Tables) (u : Rows) → table_of ts name ≡ None → with_table (ts ++ (name, t) ∷ []) name u ≡ ts ++ (name, u) ∷ []
+  pub put-last : (ts : Tables) (u : Rows) → table_of ts name ≡ None → with_table (ts ++ (name, t) ∷ []) name u ≡ ts ++ (name, u) ∷ []
   put-last [] u none = ap (λ b. cond b ((name, u) ∷ []) ((name, t) ∷ [])) (name-self name)
   put-last (x ∷ xs) u none = by (bytes_eq name x.0) none (λ e. put-last xs u e)
     where

@@ -1,3 +1,4 @@
+pub mod Applied
 pub mod Bools
 pub mod CellLaws
 pub mod Changing

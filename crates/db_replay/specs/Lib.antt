@@ -1,3 +1,5 @@
+pub mod Applying
+pub mod Changes
 pub mod Columns
 pub mod Replaying
 pub mod Rows

@@ -2,9 +2,14 @@
 #![tactic(auto)]
 
 mod cells;
+mod changes;
 mod columns;
 mod replaying;
 mod rows;
 mod standing;
 
-pub use replaying::replay;
+pub use changes::Change;
+pub use replaying::{Replayed, replay};
+
+#[cfg(test)]
+mod tests;

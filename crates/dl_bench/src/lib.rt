@@ -14,6 +14,3 @@ pub use call::Call;
 pub use event::Pick;
 pub use memory::MemoryBench;
 pub use source::MemorySource;
-
-#[cfg(test)]
-mod tests;

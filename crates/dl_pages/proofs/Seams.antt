@@ -1,6 +1,7 @@
 -- Lists with an item between a front and a rest.
-use Rattle.std.proofs.Common.{◌≡◌, ℕ, zero, suc, ◌+◌, ◌-◌, ◌<◌, ◌≤◌, Option, Some, None, List, [], ◌∷◌, ◌++◌, length, refl, sym, ap, ◌∙◌, arith, add-one, set}
+use Rattle.std.proofs.Common.{◌≡◌, ℕ, zero, suc, ◌+◌, ◌-◌, ◌<◌, ◌≤◌, Option, Some, None, List, [], ◌∷◌, ◌++◌, length, refl, sym, ap, ◌∙◌, arith}
 use Rattle.std.specs.List.{slice_get, slice_set, insert, remove}
+use Rattle.std.specs.Option.{unwrap_or}
 use Rattle.std.proofs.lemmas.List.{set-append_left, set-append_right}
 use Rattle.std.proofs.lemmas.List.Edits.{insert-append_left, remove-append_left, remove-append_right}
 
@@ -39,6 +40,17 @@ module _ {T : Type 0} where
 
   pub get_right : (xs ys : List T) (y : T) (n i : ℕ) → n ≡ length xs → n < i → slice_get (xs ++ y ∷ ys) i ≡ slice_get ys (i - n - 1)
   get_right xs ys y n i is past = get-right xs ys y i (i - n - 1) (omega arith)
+
+  -- what stands behind a front and an item
+  pub get_behind : (xs ys : List T) (y : T) (n i : ℕ) → n ≡ length xs → slice_get ys i ≡ slice_get (xs ++ y ∷ ys) (n + 1 + i)
+  get_behind xs ys y n i is = sym (get-right xs ys y (n + 1 + i) i (omega arith))
+
+  -- what stands in a front or right behind it
+  pub get_within : (xs ys : List T) (y : T) (i : ℕ) (found : Option T) → i ≤ length xs → found ≡ slice_get xs i → Some (unwrap_or found y) ≡ slice_get (xs ++ y ∷ ys) i
+  get_within [] ys y zero found within is = rw is refl
+  get_within [] ys y (suc i) found within is = absurd (omega arith)
+  get_within (x ∷ xs) ys y zero found within is = rw is refl
+  get_within (x ∷ xs) ys y (suc i) found within is = get_within xs ys y i found (omega arith) is
 
   insert-right : (xs ys : List T) (y x : T) (i k : ℕ) → i ≡ length xs + suc k → insert (xs ++ y ∷ ys) i x ≡ xs ++ y ∷ insert ys k x
   insert-right [] ys y x zero k is = absurd (omega arith)

@@ -60,7 +60,8 @@ fn is_same<K: Ordered, P: Probe<K>>(probe: &P, key: &K) -> bool
 pub fn least<K: Ordered, P: Probe<K>>(entries: &Pages<(K, u64)>, probe: &P) -> Option<u64>
     ensures { IsStrictlySortedBy (entry_order K.order) entries.now → IsLeast K.order entries.now (P.key probe.now) result }
 {
-    match entries.at(entries.partition_point(&Smaller { probe })) {
+    let (_, first) = entries.first_failing(&Smaller { probe });
+    match first {
         Some(entry) => {
             if is_same(probe, &entry.0) {
                 Some(entry.1)

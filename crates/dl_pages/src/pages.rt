@@ -21,11 +21,13 @@ pub struct Pages<T> {
     top: Option<Arc<Page<T>>>,
 }
 
-// An item, and the items before and behind it. Contracts see the list of all.
+// An item, and the items before and behind it. Contracts see the list of all. How many stand before the item is kept beside how many
+// there are, so that a search reads no page of a side that it does not enter. Counts of 32 bits keep a page small.
 #[cycle(pages)]
 #[derive(Drop)]
 struct Page<T> {
-    len: usize,
+    len: u32,
+    middle: u32,
     before: Pages<T>,
     item: Arc<T>,
     behind: Pages<T>,
@@ -54,7 +56,7 @@ impl<T> Model for Page<T> {
 
     ghost view = { λ p. p.before ++ p.item.value ∷ p.behind };
 
-    ghost invariant = { λ p. p.len ≡ length (p.before ++ p.item.value ∷ p.behind) };
+    ghost invariant = { λ p. (p.len ≡ length (p.before ++ p.item.value ∷ p.behind)) × (p.middle ≡ length p.before) };
 
     ghost size = { λ l. length l + length l };
 
@@ -73,6 +75,12 @@ impl<T> Pages<T> {
     pub fn len(&self) -> usize
         ensures { result ≡ length self.now }
     {
+        self.count() as usize
+    }
+
+    fn count(&self) -> u32
+        ensures { result ≡ length self.now }
+    {
         match &self.top {
             None => 0,
             Some(page) => page.len,
@@ -88,7 +96,7 @@ impl<T> Pages<T> {
             None => None,
             Some(page) => {
                 let page: &Page<T> = page;
-                let middle = page.before.len();
+                let middle = page.middle as usize;
                 if index < middle {
                     page.before.at(index)
                 } else if index == middle {
@@ -128,15 +136,28 @@ impl<T> Pages<T> {
         ensures within { result ≤ length self.now }
         ensures point { IsPartitioned (F.test predicate.now) self.now → IsPartitionPoint (F.test predicate.now) self.now result }
     {
+        let (place, _) = self.first_failing(predicate);
+        place
+    }
+
+    /// How many items pass a test, as `partition_point` tells, and the item that stands there, which is the first that fails it;
+    /// None where all pass. It is one walk. It takes no memory. The cost grows with the logarithm of the length.
+    pub fn first_failing<F: Predicate<T>>(&self, predicate: &F) -> (usize, Option<&T>)
+        ensures within { result.0 ≤ length self.now }
+        ensures point { IsPartitioned (F.test predicate.now) self.now → IsPartitionPoint (F.test predicate.now) self.now result.0 }
+        ensures item { option_copied result.1 ≡ slice_get self.now result.0 }
+    {
         match &self.top {
-            None => 0,
+            None => (0, None),
             Some(page) => {
                 let page: &Page<T> = page;
                 if predicate.passes(&page.item) {
-                    let passed = page.len - page.behind.len();
-                    passed + page.behind.partition_point(predicate)
+                    let passed = (page.len - page.behind.count()) as usize;
+                    let (place, item) = page.behind.first_failing(predicate);
+                    (passed + place, item)
                 } else {
-                    page.before.partition_point(predicate)
+                    let (place, item) = page.before.first_failing(predicate);
+                    (place, Some(item.unwrap_or(&page.item)))
                 }
             }
         }
@@ -177,7 +198,7 @@ impl<T: Drop> Pages<T> {
             None => page_of(alloc, Pages::empty(), item, Pages::empty()),
             Some(page) => {
                 let page: &Page<T> = page;
-                let middle = page.before.len();
+                let middle = page.middle as usize;
                 if index <= middle {
                     let grown = page.before.inserted(alloc, index, item)?;
                     balanced(
@@ -209,7 +230,7 @@ impl<T: Drop> Pages<T> {
             None => Ok(Pages::empty()),
             Some(page) => {
                 let page: &Page<T> = page;
-                let middle = page.before.len();
+                let middle = page.middle as usize;
                 if index < middle {
                     let side = page.before.replaced(alloc, index, item)?;
                     page_of(
@@ -243,7 +264,7 @@ impl<T: Drop> Pages<T> {
             None => Ok(Pages::empty()),
             Some(page) => {
                 let page: &Page<T> = page;
-                let middle = page.before.len();
+                let middle = page.middle as usize;
                 if index < middle {
                     let side = page.before.removed(alloc, index)?;
                     balanced(
@@ -340,7 +361,7 @@ fn same_at<T: Same>(pages: &Pages<T>, others: &Pages<T>, index: usize) -> bool
     }
 }
 
-// A page of an item and what is before and behind it. A length past `usize` is answered as want of memory, so that no caller owes
+// A page of an item and what is before and behind it. A length past `u32` is answered as want of memory, so that no caller owes
 // a bound.
 fn page_of<T: Drop>(
     alloc: Global,
@@ -350,7 +371,8 @@ fn page_of<T: Drop>(
 ) -> Result<Pages<T>, Memory>
     ensures { IfOk result (λ made. made ≡ before ++ arc_value item ∷ behind) }
 {
-    let Some(sides) = before.len().checked_add(behind.len()) else {
+    let middle = before.count();
+    let Some(sides) = middle.checked_add(behind.count()) else {
         return Err(Memory);
     };
     let Some(len) = sides.checked_add(1) else {
@@ -358,6 +380,7 @@ fn page_of<T: Drop>(
     };
     let page = Page {
         len,
+        middle,
         before,
         item,
         behind,

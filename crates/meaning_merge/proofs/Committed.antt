@@ -7,12 +7,11 @@ use Rattle.meaning_areas.specs.Commits.{Commit, commit_of, columns_stand, tables
 use Rattle.meaning_areas.specs.Same.{same_rows}
 use Rattle.meaning_areas.specs.Stands.{past}
 use Rattle.meaning_areas.proofs.Tables.{commit_of-here}
-use Rattle.meaning_settling.proofs.KeyedLaws.{false_true}
 use Rattle.meaning_tables.specs.Fits.{table_fits, rows_fit, differ, Fits}
 use Rattle.meaning_tables.specs.Links.{links, same_number}
 use Rattle.meaning_tables.specs.Tables.{Rows, Tables, IsNumbered, table_of}
 use Rattle.sql_invariants.specs.Ordered.{AreOrdered}
-use Rattle.meaning_merge.specs.History.{EachTable, Subsequence, ends, leaves, keeps, older, CopyOf, makes, drops, has, IsHistory, IsTransaction, AreCurrent, version}
+use Rattle.meaning_merge.specs.History.{EachTable, Subsequence, ends, leaves, keeps, older, CopyOf, makes, drops, has, IsHistory, IsTransaction, AreCurrent, is_used, version}
 use Rattle.meaning_merge.specs.Merging.{Fate, stays, goes, becomes, fate_of, as_version, by_fate, kept_at, new_at, new_ones, merge, AreNamed}
 use Rattle.meaning_merge.specs.Touching.{In, EachLink}
 use Rattle.meaning_merge.proofs.Histories.{past-last, past-within, past-push, ordered-numbered, named-ordered, within, beyond}
@@ -21,6 +20,7 @@ use Rattle.meaning_merge.proofs.MergeLaws.{filter-append}
 use Rattle.meaning_merge.proofs.Numbers.{both, two, each-in, in-each, distinct-differ, picked, passed, split-in, picked-in}
 use Rattle.meaning_merge.proofs.TableByTable.{table_of-append, kept, none-kept, kept-table, none-new, new-table}
 use Rattle.meaning_merge.proofs.Touched as touched
+use Rattle.meaning_merge.proofs.Used.{unused-none, used-more, used-own}
 
 -- subsequences
 
@@ -43,24 +43,16 @@ each-append P [] us one other = other
 each-append P (t ∷ ts) us one other = (one.0, each-append P ts us one.1 other)
 
 -- WHAT FOLLOWS a history: one more commit
-pub record Follows (cs : List Commit) (d : Commit) : Type 0 where
+pub record Follows (first : ℕ) (cs : List Commit) (d : Commit) : Type 0 where
   pub versions : EachTable d.tables (λ t. (0 < t.1.version) × (t.1.version ≤ length cs + 1))
   pub same : (i : ℕ) (es : Tables) → i ≤ length cs → past [] cs i ≡ Some es → Subsequence es (older i d.tables)
   pub ordered : AreOrdered d.tables
   pub columns : EachTable d.tables (λ t. columns_stand t.1.columns ≡ true)
   pub fit : Fits d.tables
-  pub drawn : EachLink (links d.tables) (λ l. is_some (commit_of l.link.tx (cs ++ d ∷ [])) ≡ true)
+  pub drawn : EachLink (links d.tables) (λ l. is_used first (cs ++ d ∷ []) l.link.tx ≡ true)
 
-pub commit-more : (q : ℕ) (d : Commit) (cs : List Commit) → is_some (commit_of q cs) ≡ true → is_some (commit_of q (cs ++ d ∷ [])) ≡ true
-commit-more q d [] some = absurd (false_true some)
-commit-more q d (c ∷ cs) some = by (c.tx == q) some (λ h. commit-more q d cs h)
-  where
-    by : (b : Bool) → is_some (cond b (Some c) (commit_of q cs)) ≡ true → (is_some (commit_of q cs) ≡ true → is_some (commit_of q (cs ++ d ∷ [])) ≡ true) → is_some (cond b (Some c) (commit_of q (cs ++ d ∷ []))) ≡ true
-    by true e go = refl
-    by false e go = go e
-
-pub goes-on : (cs : List Commit) (d : Commit) → IsHistory cs → Follows cs d → IsHistory (cs ++ d ∷ [])
-goes-on cs d history follows = record {
+pub goes-on : (first : ℕ) (cs : List Commit) (d : Commit) → IsHistory first cs → Follows first cs d → IsHistory first (cs ++ d ∷ [])
+goes-on first cs d history follows = record {
   versions = λ n ts at. ⊎_elim
       (λ (old : past [] cs n ≡ Some ts). history.versions n ts old)
       (λ (last : (n ≡ suc (length cs)) × (ts ≡ d.tables)). subst (λ (us : Tables). EachTable us (λ t. (0 < t.1.version) × (t.1.version ≤ n))) (sym last.1) (upto n last.0))
@@ -88,8 +80,8 @@ goes-on cs d history follows = record {
       (λ (last : (n ≡ suc (length cs)) × (ts ≡ d.tables)). subst (λ (us : Tables). Fits us) (sym last.1) follows.fit)
       (past-push [] d cs n ts at);
   drawn = λ n ts at. ⊎_elim
-      (λ (old : past [] cs n ≡ Some ts). in-each (λ l. is_some (commit_of l.link.tx (cs ++ d ∷ [])) ≡ true) (links ts) (λ l is. commit-more l.link.tx d cs (each-in (λ x. is_some (commit_of x.link.tx cs) ≡ true) (links ts) l (history.drawn n ts old) is)))
-      (λ (last : (n ≡ suc (length cs)) × (ts ≡ d.tables)). subst (λ (us : Tables). EachLink (links us) (λ l. is_some (commit_of l.link.tx (cs ++ d ∷ [])) ≡ true)) (sym last.1) follows.drawn)
+      (λ (old : past [] cs n ≡ Some ts). in-each (λ l. is_used first (cs ++ d ∷ []) l.link.tx ≡ true) (links ts) (λ l is. used-more first l.link.tx d cs (each-in (λ x. is_used first cs x.link.tx ≡ true) (links ts) l (history.drawn n ts old) is)))
+      (λ (last : (n ≡ suc (length cs)) × (ts ≡ d.tables)). subst (λ (us : Tables). EachLink (links us) (λ l. is_used first (cs ++ d ∷ []) l.link.tx ≡ true)) (sym last.1) follows.drawn)
       (past-push [] d cs n ts at);
 }
   where
@@ -196,14 +188,14 @@ pub rows-of : (ts : Tables) → Fits ts → EachTable ts (λ t. table_fits t.1 �
 rows-of ts fit = each-fit ts (both (rows_fit ts) (differ same_number (map (λ l. l.link) (links ts))) fit).0
 
 -- the columns of a copy are its base's, or were made
-copy-columns : {base copy : Tables} → CopyOf base copy → EachTable base (λ t. columns_stand t.1.columns ≡ true) → EachTable copy (λ t. columns_stand t.1.columns ≡ true)
+pub copy-columns : {base copy : Tables} → CopyOf base copy → EachTable base (λ t. columns_stand t.1.columns ≡ true) → EachTable copy (λ t. columns_stand t.1.columns ≡ true)
 copy-columns {copy = copy} (makes made) each = each-map (λ t. (t.1.version ≡ 0) × (columns_stand t.1.columns ≡ true)) (λ t. columns_stand t.1.columns ≡ true) copy (λ t m. m.1) made
 copy-columns (drops t of) each = copy-columns of each.1
 copy-columns (has t later version columns of) each = (ap columns_stand columns ∙ each.0, copy-columns of each.1)
 
 -- a committed history
 
-module _ (cs : List Commit) (tx : ℕ) (base copy : Tables) (names : List (List ℕ)) (next : ℕ) (history : IsHistory cs) (txn : IsTransaction cs tx base copy names next) (current : AreCurrent base (tables_after [] cs) names) where
+module _ (first : ℕ) (cs : List Commit) (tx : ℕ) (base copy : Tables) (names : List (List ℕ)) (next : ℕ) (history : IsHistory first cs) (txn : IsTransaction first cs tx base copy names next) (current : AreCurrent base (tables_after [] cs) names) where
   abbrev committed : Tables
   committed = tables_after [] cs
 
@@ -217,10 +209,10 @@ module _ (cs : List Commit) (tx : ℕ) (base copy : Tables) (names : List (List 
   merged = merge committed base copy number
 
   last_named : AreNamed committed
-  last_named = touched.last_named cs tx base copy names next history txn current
+  last_named = touched.last_named first cs tx base copy names next history txn current
 
   copy_named : AreNamed copy
-  copy_named = touched.copy_named cs tx base copy names next history txn current
+  copy_named = touched.copy_named first cs tx base copy names next history txn current
 
   at_last : past [] cs (length cs) ≡ Some committed
   at_last = past-last [] cs
@@ -253,7 +245,7 @@ module _ (cs : List Commit) (tx : ℕ) (base copy : Tables) (names : List (List 
           gone : (o : Option Rows) → kept_at number o goes ≡ None
           gone None = refl
           gone (Some x) = refl
-      dropped t at made None at_base = none-kept number fate committed name (touched.never_there cs tx base copy names next history txn current name t at at_base)
+      dropped t at made None at_base = none-kept number fate committed name (touched.never_there first cs tx base copy names next history txn current name t at at_base)
 
       by : (o : Option Rows) → table_of copy name ≡ o → table_of (new_ones number copy) name ≡ new_at number (table_of copy name) → (table_of (kept number fate committed) name ≡ None) ⊎ (table_of (new_ones number copy) name ≡ None)
       by None at is = inr (is ∙ ap (new_at number) at)
@@ -270,7 +262,7 @@ module _ (cs : List Commit) (tx : ℕ) (base copy : Tables) (names : List (List 
   merged_fit = two (rows_fit merged) (differ same_number (map (λ l. l.link) (links merged)))
       (fit-each merged (each-merged (λ t. table_fits t.1 ≡ true) committed base copy number copy_named (rows-of committed (history.fit (length cs) committed at_last))
       (λ name t is. found-each (λ u. table_fits u ≡ true) copy name t (rows-of copy txn.fit) is)))
-      (distinct-differ (links merged) (touched.merged_distinct cs tx base copy names next history txn current))
+      (distinct-differ (links merged) (touched.merged_distinct first cs tx base copy names next history txn current))
 
   -- what was not changed since an earlier commit
 
@@ -307,53 +299,50 @@ module _ (cs : List Commit) (tx : ℕ) (base copy : Tables) (names : List (List 
 
   -- links
 
-  merged_drawn : (d : Commit) → d.tx ≡ tx → EachLink (links merged) (λ l. is_some (commit_of l.link.tx (cs ++ d ∷ [])) ≡ true)
-  merged_drawn d is = in-each (λ l. is_some (commit_of l.link.tx (cs ++ d ∷ [])) ≡ true) (links merged) (λ l there. by l (split-in (of_merged number fate) merged l there))
+  merged_drawn : (d : Commit) → d.tx ≡ tx → EachLink (links merged) (λ l. is_used first (cs ++ d ∷ []) l.link.tx ≡ true)
+  merged_drawn d is = in-each (λ l. is_used first (cs ++ d ∷ []) l.link.tx ≡ true) (links merged) (λ l there. by l (split-in (of_merged number fate) merged l there))
     where
-      old : (l : LinkRow) (n : ℕ) (ts : Tables) → past [] cs n ≡ Some ts → In l (links ts) → is_some (commit_of l.link.tx (cs ++ d ∷ [])) ≡ true
-      old l n ts at there = commit-more l.link.tx d cs (each-in (λ x. is_some (commit_of x.link.tx cs) ≡ true) (links ts) l (history.drawn n ts at) there)
+      old : (l : LinkRow) (n : ℕ) (ts : Tables) → past [] cs n ≡ Some ts → In l (links ts) → is_used first (cs ++ d ∷ []) l.link.tx ≡ true
+      old l n ts at there = used-more first l.link.tx d cs (each-in (λ x. is_used first cs x.link.tx ≡ true) (links ts) l (history.drawn n ts at) there)
 
-      own : (l : LinkRow) → l.link.tx ≡ tx → is_some (commit_of l.link.tx (cs ++ d ∷ [])) ≡ true
-      own l e = ap (λ n. is_some (commit_of n (cs ++ d ∷ []))) (e ∙ sym is) ∙ ap is_some (commit_of-here d cs (ap (λ n. commit_of n cs) is ∙ txn.open_yet))
+      own : (l : LinkRow) → l.link.tx ≡ tx → is_used first (cs ++ d ∷ []) l.link.tx ≡ true
+      own l e = used-own first l.link.tx d cs (ap (λ n. is_some (commit_of n (cs ++ d ∷ []))) (e ∙ sym is) ∙ ap is_some (commit_of-here d cs (ap (λ n. commit_of n cs) is ∙ unused-none first cs tx txn.unused)))
 
-      by : (l : LinkRow) → In l (picked (of_merged number fate) merged) ⊎ In l (passed (of_merged number fate) merged) → is_some (commit_of l.link.tx (cs ++ d ∷ [])) ≡ true
+      by : (l : LinkRow) → In l (picked (of_merged number fate) merged) ⊎ In l (passed (of_merged number fate) merged) → is_used first (cs ++ d ∷ []) l.link.tx ≡ true
       by l h = ⊎_elim
           (λ (a : In l (picked (of_merged number fate) merged)). ⊎_elim
           (λ (b : In l (links base)). old l txn.begun.0 base txn.begun.1 b)
           (λ (e : l.link.tx ≡ tx). own l e)
           (each-in (λ x. In x (links base) ⊎ (x.link.tx ≡ tx)) (links copy) l txn.drawn
-          (picked-in (of_copy number fate) copy l (subst (λ (ls : List LinkRow). In l ls) (sym (touched.after_links cs tx base copy names next history txn current)) a))))
+          (picked-in (of_copy number fate) copy l (subst (λ (ls : List LinkRow). In l ls) (sym (touched.after_links first cs tx base copy names next history txn current)) a))))
           (λ (a : In l (passed (of_merged number fate) merged)).
-          old l (length cs) committed at_last (picked-in (λ t. not (of_base number fate t)) committed l (subst (λ (ts : Tables). In l (links ts)) (sym (touched.left_merged cs tx base copy names next history txn current)) a)))
+          old l (length cs) committed at_last (picked-in (λ t. not (of_base number fate t)) committed l (subst (λ (ts : Tables). In l (links ts)) (sym (touched.left_merged first cs tx base copy names next history txn current)) a)))
           h
 
-  pub merge-follows : (d : Commit) → d.tx ≡ tx → d.tables ≡ merged → Follows cs d
+  pub merge-follows : (d : Commit) → d.tx ≡ tx → d.tables ≡ merged → Follows first cs d
   merge-follows d own is = record {
     versions = subst (λ (ts : Tables). EachTable ts (λ t. (0 < t.1.version) × (t.1.version ≤ number))) (sym is) merged_versions;
     same = λ i es le at. subst (λ (ts : Tables). Subsequence es (older i ts)) (sym is) (merged_same i es le at);
     ordered = subst (λ (ts : Tables). AreOrdered ts) (sym is) (named-ordered merged merged_named merged_numbered);
     columns = subst (λ (ts : Tables). EachTable ts (λ t. columns_stand t.1.columns ≡ true)) (sym is) merged_columns;
     fit = subst (λ (ts : Tables). Fits ts) (sym is) merged_fit;
-    drawn = subst (λ (ts : Tables). EachLink (links ts) (λ l. is_some (commit_of l.link.tx (cs ++ d ∷ [])) ≡ true)) (sym is) (merged_drawn d own);
+    drawn = subst (λ (ts : Tables). EachLink (links ts) (λ l. is_used first (cs ++ d ∷ []) l.link.tx ≡ true)) (sym is) (merged_drawn d own);
   }
 
 -- THE HISTORY begins without commits
-pub no-commits : IsHistory []
-no-commits = record {
+pub no-commits : (first : ℕ) → IsHistory first []
+no-commits first = record {
   versions = λ n ts at. each-none n ts at;
   same = λ i j es ls le at_i at_j. subst (λ (us : Tables). Subsequence es (older i us)) (none-after j ls at_j) (subst (λ (us : Tables). Subsequence us []) (none-after i es at_i) ends);
   ordered = λ n ts at. subst (λ (us : Tables). AreOrdered us) (none-after n ts at) (named-ordered [] tt tt);
   columns = λ n ts at. subst (λ (us : Tables). EachTable us (λ t. columns_stand t.1.columns ≡ true)) (none-after n ts at) tt;
   fit = λ n ts at. subst (λ (us : Tables). Fits us) (none-after n ts at) refl;
-  drawn = λ n ts at. subst (λ (us : Tables). EachLink (links us) (λ l. is_some (commit_of l.link.tx []) ≡ true)) (none-after n ts at) tt;
+  drawn = λ n ts at. subst (λ (us : Tables). EachLink (links us) (λ l. is_used first [] l.link.tx ≡ true)) (none-after n ts at) tt;
 }
   where
     none-after : (n : ℕ) (ts : Tables) → past [] [] n ≡ Some ts → [] ≡ ts
-    none-after n ts at = first n at
-      where
-        first : (n : ℕ) → past [] [] n ≡ Some ts → [] ≡ ts
-        first zero at = cc
-        first (suc n) at = absurd cc
+    none-after zero ts at = cc
+    none-after (suc n) ts at = absurd cc
 
     each-none : (n : ℕ) (ts : Tables) → past [] [] n ≡ Some ts → EachTable ts (λ t. (0 < t.1.version) × (t.1.version ≤ n))
     each-none n ts at = subst (λ (us : Tables). EachTable us (λ t. (0 < t.1.version) × (t.1.version ≤ n))) (none-after n ts at) tt

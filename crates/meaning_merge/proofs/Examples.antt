@@ -91,10 +91,10 @@ only false e = absurd cc
 
 -- transaction 1, and the history behind its commit
 
-txn_1 : IsTransaction [] 1 [] made (a ∷ b ∷ []) 2
+txn_1 : IsTransaction 0 [] 1 [] made (a ∷ b ∷ []) 2
 txn_1 = record {
   begun = (0, refl);
-  open_yet = refl;
+  unused = refl;
   copy_of = makes ((refl, refl), ((refl, refl), tt));
   named = λ name lacks. one_of (bytes_eq name a) (bytes_eq name b) (Some (table 0 linked 2 (row 1 (link 120 1) ∷ []))) (Some (table 0 plain 1 [])) None lacks;
   ordered = named-ordered made (refl, (refl, tt)) ((omega arith, omega arith, tt), (tt, tt));
@@ -103,15 +103,15 @@ txn_1 = record {
   drawn = (inr refl, tt);
 }
 
-history_1 : IsHistory past_1
-history_1 = goes-on [] commit_1 no-commits (merge-follows [] 1 [] made (a ∷ b ∷ []) 2 no-commits txn_1 (λ name among. refl) commit_1 refl refl)
+history_1 : IsHistory 0 past_1
+history_1 = goes-on 0 [] commit_1 (no-commits 0) (merge-follows 0 [] 1 [] made (a ∷ b ∷ []) 2 (no-commits 0) txn_1 (λ name among. refl) commit_1 refl refl)
 
 -- transaction 6 changes b
 
-txn_6 : IsTransaction past_1 6 first second (b ∷ []) 1
+txn_6 : IsTransaction 0 past_1 6 first second (b ∷ []) 1
 txn_6 = record {
   begun = (1, refl);
-  open_yet = refl;
+  unused = refl;
   copy_of = has (a, table 1 linked 2 (row 1 (link 120 1) ∷ [])) (table 1 linked 2 (row 1 (link 120 1) ∷ [])) refl refl (has (b, table 1 plain 1 []) (table 1 plain 2 (row 1 values.Null ∷ [])) refl refl (makes tt));
   named = λ name lacks. other_b (bytes_eq name a) (bytes_eq name b) (Some (table 1 plain 2 (row 1 values.Null ∷ []))) (Some (table 1 plain 1 [])) (Some (table 1 linked 2 (row 1 (link 120 1) ∷ []))) lacks;
   ordered = named-ordered second (refl, (refl, tt)) ((omega arith, omega arith, tt), ((omega arith, omega arith, tt), tt));
@@ -120,15 +120,15 @@ txn_6 = record {
   drawn = (inl (inl refl), tt);
 }
 
-history_2 : IsHistory past_2
-history_2 = goes-on past_1 (commit_to past_1 6 false (merge first first second 2)) history_1 (merge-follows past_1 6 first second (b ∷ []) 1 history_1 txn_6 (λ name among. refl) (commit_to past_1 6 false (merge first first second 2)) refl refl)
+history_2 : IsHistory 0 past_2
+history_2 = goes-on 0 past_1 (commit_to past_1 6 false (merge first first second 2)) history_1 (merge-follows 0 past_1 6 first second (b ∷ []) 1 history_1 txn_6 (λ name among. refl) (commit_to past_1 6 false (merge first first second 2)) refl refl)
 
 -- transaction 5 began behind commit 1, changes a, and meets no conflict behind commit 2
 
-txn_5 : IsTransaction past_2 5 first mine (a ∷ []) 2
+txn_5 : IsTransaction 0 past_2 5 first mine (a ∷ []) 2
 txn_5 = record {
   begun = (1, refl);
-  open_yet = refl;
+  unused = refl;
   copy_of = has (a, table 1 linked 2 (row 1 (link 120 1) ∷ [])) (table 1 linked 3 (row 2 (link 121 5) ∷ [])) refl refl (has (b, table 1 plain 1 []) (table 1 plain 1 []) refl refl (makes tt));
   named = λ name lacks. other_a (bytes_eq name a) (bytes_eq name b) (Some (table 1 linked 3 (row 2 (link 121 5) ∷ []))) (Some (table 1 linked 2 (row 1 (link 120 1) ∷ []))) (Some (table 1 plain 1 [])) lacks;
   ordered = named-ordered mine (refl, (refl, tt)) ((omega arith, omega arith, tt), (tt, tt));
@@ -143,7 +143,7 @@ current_5 name among = subst (λ n. version (table_of first n) ≡ version (tabl
 -- THE PREMISES ARE MET, and what is merged
 
 touches_5 : Touches first mine (tables_after [] past_2) (merge (tables_after [] past_2) first mine 3)
-touches_5 = merge-touches past_2 5 first mine (a ∷ []) 2 history_2 txn_5 current_5
+touches_5 = merge-touches 0 past_2 5 first mine (a ∷ []) 2 history_2 txn_5 current_5
 
 abbrev third : Tables
 third = (a, table 3 linked 3 (row 2 (link 121 5) ∷ [])) ∷ (b, table 2 plain 2 (row 1 values.Null ∷ [])) ∷ []

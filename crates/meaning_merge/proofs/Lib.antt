@@ -16,3 +16,4 @@ pub mod TableByTable
 pub mod TableChanges
 pub mod Touched
 pub mod Transactions
+pub mod Used

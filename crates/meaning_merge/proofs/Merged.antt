@@ -7,7 +7,7 @@ use Rattle.dl_base.specs.declared.column.WriteBy.TheVariants as write
 use Rattle.dl_base.specs.declared.file.File.{File}
 use Rattle.dl_base.specs.declared.value.LinkNo.{LinkNo}
 use Rattle.dl_base.specs.declared.value.LinkRow.{LinkRow}
-use Rattle.meaning_areas.specs.Commits.{Commit, commit_of, tables_after}
+use Rattle.meaning_areas.specs.Commits.{Commit, tables_after}
 use Rattle.meaning_areas.specs.Copies.{Backup}
 use Rattle.meaning_areas.specs.Merges.{Merges}
 use Rattle.meaning_areas.specs.Stands.{past, stored_with, IsCommit, IsWhole}
@@ -18,7 +18,7 @@ use Rattle.meaning_settling.proofs.PartLaws.{get-copies, get-files}
 use Rattle.meaning_tables.specs.Links.{links, gives, takes}
 use Rattle.meaning_tables.specs.Tables.{Tables, table_of}
 use Rattle.meaning_merge.specs.Claimed.{IsClaimed}
-use Rattle.meaning_merge.specs.History.{IsHistory, IsTransaction, AreCurrent}
+use Rattle.meaning_merge.specs.History.{IsHistory, IsTransaction, AreCurrent, is_used}
 use Rattle.meaning_merge.specs.Merging.{Fate, fate_of, merge}
 use Rattle.meaning_merge.specs.Touching.{In, is_in, OnePath}
 use Rattle.meaning_merge.proofs.Histories.{past-last}
@@ -28,6 +28,7 @@ use Rattle.meaning_merge.proofs.MovedLaws.{on-in, none-in, in-number, has-number
 use Rattle.meaning_merge.proofs.Numbers.{number-same, each-in, is_in-number, distinct-same, Distinct, picked, passed, split-in, picked-in}
 use Rattle.meaning_merge.proofs.Paths.{key-same, numbered-in, in-numbered, none-numbered, distinct-filter, one-same, same-one, differ-one, one-differ}
 use Rattle.meaning_merge.proofs.Touched as touched
+use Rattle.meaning_merge.proofs.Used.{not-used}
 
 -- tables of the past are those of a commit, or none
 past-commit : (t : Tables) (cs : List Commit) (n : ℕ) (ts : Tables) → past t cs n ≡ Some ts → (t ≡ ts) ⊎ ((x : Commit) × IsCommit x cs × (x.tables ≡ ts))
@@ -55,7 +56,7 @@ taken-there write.Fs r (Some f) e = refl
 taken-there write.Blocked r (Some f) e = refl
 taken-there write.Admin r (Some f) e = refl
 
-module _ (cs : List Commit) (tx : ℕ) (base copy : Tables) (names : List (List ℕ)) (next : ℕ) (history : IsHistory cs) (txn : IsTransaction cs tx base copy names next) (current : AreCurrent base (tables_after [] cs) names)
+module _ (first : ℕ) (cs : List Commit) (tx : ℕ) (base copy : Tables) (names : List (List ℕ)) (next : ℕ) (history : IsHistory first cs) (txn : IsTransaction first cs tx base copy names next) (current : AreCurrent base (tables_after [] cs) names)
     (bs : List Backup) (rows_opening links_opening : ℕ) (k : Kept) (whole : IsWhole (stored_with cs bs rows_opening links_opening k)) (claimed : IsClaimed base copy (tables_after [] cs) k.files) where
   abbrev committed : Tables
   committed = tables_after [] cs
@@ -82,16 +83,16 @@ module _ (cs : List Commit) (tx : ℕ) (base copy : Tables) (names : List (List 
   at_last = past-last [] cs
 
   last_distinct : Distinct (links committed)
-  last_distinct = touched.last_distinct cs tx base copy names next history txn current
+  last_distinct = touched.last_distinct first cs tx base copy names next history txn current
 
   merged_distinct : Distinct (links merged)
-  merged_distinct = touched.merged_distinct cs tx base copy names next history txn current
+  merged_distinct = touched.merged_distinct first cs tx base copy names next history txn current
 
   past_distinct : (n : ℕ) (ts : Tables) → past [] cs n ≡ Some ts → Distinct (links ts)
   past_distinct n ts at = touched.fits-distinct ts (history.fit n ts at)
 
   moved_so : (gives committed merged ≡ given) × (takes committed merged ≡ taken)
-  moved_so = merged-moves base copy committed merged (touched.merge-touches cs tx base copy names next history txn current)
+  moved_so = merged-moves base copy committed merged (touched.merge-touches first cs tx base copy names next history txn current)
 
   -- one number is one link in all of the past
   past_one : (m n : ℕ) (ts us : Tables) (x y : LinkRow) → past [] cs m ≡ Some ts → past [] cs n ≡ Some us → In x (links ts) → In y (links us) → x.link ≡ y.link → x ≡ y
@@ -108,10 +109,7 @@ module _ (cs : List Commit) (tx : ℕ) (base copy : Tables) (names : List (List 
 
   -- no link of the past has a number of this transaction
   past_not_own : (n : ℕ) (ts : Tables) (l : LinkRow) → past [] cs n ≡ Some ts → In l (links ts) → l.link.tx ≡ tx → ⊥
-  past_not_own n ts l at is own = none_there (commit_of l.link.tx cs) (ap (λ t. commit_of t cs) own ∙ txn.open_yet) (each-in (λ x. is_some (commit_of x.link.tx cs) ≡ true) (links ts) l (history.drawn n ts at) is)
-    where
-      none_there : (o : Option Commit) → o ≡ None → is_some o ≡ true → ⊥
-      none_there o none some = false_true (sym (ap is_some none) ∙ some)
+  past_not_own n ts l at is own = not-used first cs l.link.tx tx (each-in (λ x. is_used first cs x.link.tx ≡ true) (links ts) l (history.drawn n ts at) is) own txn.unused
 
   -- a link of the copy is of the past, or has a number of this transaction
   copy_link : (l : LinkRow) → In l (links copy) → In l (links base) ⊎ (l.link.tx ≡ tx)
@@ -123,9 +121,9 @@ module _ (cs : List Commit) (tx : ℕ) (base copy : Tables) (names : List (List 
       (λ (a : In l (picked (of_merged number fate) merged)). ⊎_elim
       (λ (b : In l (links base)). inl (txn.begun.0, base, txn.begun.1, b))
       (λ (e : l.link.tx ≡ tx). inr e)
-      (copy_link l (picked-in (of_copy number fate) copy l (subst (λ (ls : List LinkRow). In l ls) (sym (touched.after_links cs tx base copy names next history txn current)) a))))
+      (copy_link l (picked-in (of_copy number fate) copy l (subst (λ (ls : List LinkRow). In l ls) (sym (touched.after_links first cs tx base copy names next history txn current)) a))))
       (λ (a : In l (passed (of_merged number fate) merged)).
-      inl (length cs, committed, at_last, picked-in (λ t. not (of_base number fate t)) committed l (subst (λ (ts : Tables). In l (links ts)) (sym (touched.left_merged cs tx base copy names next history txn current)) a)))
+      inl (length cs, committed, at_last, picked-in (λ t. not (of_base number fate t)) committed l (subst (λ (ts : Tables). In l (links ts)) (sym (touched.left_merged first cs tx base copy names next history txn current)) a)))
       (split-in (of_merged number fate) merged l is)
 
   merged_one : (n : ℕ) (ts : Tables) (x y : LinkRow) → past [] cs n ≡ Some ts → In x (links ts) → In y (links merged) → x.link ≡ y.link → x ≡ y

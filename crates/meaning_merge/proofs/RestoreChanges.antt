@@ -128,9 +128,9 @@ module _ (committed target : Tables) (c : ℕ) (named : AreNamed committed) (tar
         ∙ new-lead c (kept_in c fate committed) (new_in committed target) fresh_named are_new
         ∙ ap (λ (ts : Tables). Some (ts ++ map (λ t. (t.0, as_version c t.1)) (new_in committed target))) (left-same committed by_fate_of)
 
-pub restore-taken : (cs : List Commit) (target : Tables) → IsHistory cs → CanFollow cs target
+pub restore-taken : (first : ℕ) (cs : List Commit) (target : Tables) → IsHistory first cs → CanFollow first cs target
     → with_table_changes (length cs + 1) (tables_after [] cs) (restore_changes (tables_after [] cs) target) ≡ Some (restored_tables (tables_after [] cs) target (length cs + 1))
-restore-taken cs target history can =
+restore-taken first cs target history can =
     let last = history.ordered (length cs) (tables_after [] cs) (past-last [] cs) in
     changes-restore (tables_after [] cs) target (length cs + 1) (ordered-named (tables_after [] cs) last) can.named (ordered-numbered (tables_after [] cs) last) can.numbered can.columns
 

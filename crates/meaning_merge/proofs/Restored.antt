@@ -1,5 +1,5 @@
 -- A restore goes on with the history.
-use Rattle.std.proofs.Common.{◌≡◌, ◌⊎◌, inl, inr, ⊎_elim, ℕ, ◌+◌, ◌≤◌, ◌<◌, ◌&&◌, ◌||◌, List, [], ◌∷◌, ◌++◌, Bool, true, false, not, cond, bytes_eq, map, length, nat_le, nat_lt, Option, Some, None, is_some, is_none, Result, Ok, Err, refl, sym, ◌∙◌, ap, subst, arith}
+use Rattle.std.proofs.Common.{◌≡◌, ◌⊎◌, inl, inr, ⊎_elim, ℕ, ◌+◌, ◌≤◌, ◌<◌, ◌&&◌, ◌||◌, List, [], ◌∷◌, ◌++◌, Bool, true, false, not, cond, bytes_eq, map, length, nat_le, nat_lt, Option, Some, None, is_none, Result, Ok, Err, refl, sym, ◌∙◌, ap, subst, arith}
 use Rattle.std.specs.Cmp.Lexicographic.{pointwise}
 use Rattle.std.specs.List.{filter, filter_map, flat_map, cons_option, list_all, list_any}
 use Rattle.dl_base.specs.declared.column.Column.{Column}
@@ -14,7 +14,7 @@ use Rattle.dl_base.specs.declared.value.LinkRow.{LinkRow}
 use Rattle.dl_base.specs.declared.value.Row.{Row}
 use Rattle.dl_base.specs.declared.value.Value.{Value}
 use Rattle.dl_base.specs.declared.value.Value.TheVariants as values
-use Rattle.meaning_areas.specs.Commits.{Commit, commit_of, columns_stand, definition_of, is_made, defined_kind, not_nulls, keys, tables_after}
+use Rattle.meaning_areas.specs.Commits.{Commit, columns_stand, definition_of, is_made, defined_kind, not_nulls, keys, tables_after}
 use Rattle.meaning_areas.specs.Same.{same_columns}
 use Rattle.meaning_areas.specs.Stands.{past}
 use Rattle.meaning_settling.proofs.KeyedLaws.{false_true}
@@ -26,11 +26,11 @@ use Rattle.meaning_tables.specs.OptionRows.{is_option_row}
 use Rattle.meaning_tables.specs.Tables.{Rows, Tables, Rise, IsNumbered, table_of}
 use Rattle.sql_invariants.specs.Ordered.{AreOrdered}
 use Rattle.sql_invariants.proofs.Steps.{go_on, given, held}
-use Rattle.meaning_merge.specs.History.{EachTable, Subsequence, ends, leaves, older, IsHistory}
+use Rattle.meaning_merge.specs.History.{EachTable, Subsequence, ends, leaves, older, IsHistory, is_used}
 use Rattle.meaning_merge.specs.Merging.{as_version, AreNamed}
 use Rattle.meaning_merge.specs.Restoring.{loses, without_cells, without_lost, is_kept, kept_as, restored_tables}
 use Rattle.meaning_merge.specs.Touching.{In, is_in, EachLink}
-use Rattle.meaning_merge.proofs.Committed.{Follows, append-named, commit-more, each-append, each-fit, fit-each}
+use Rattle.meaning_merge.proofs.Committed.{Follows, append-named, each-append, each-fit, fit-each}
 use Rattle.meaning_merge.proofs.Histories.{past-last, ordered-named, ordered-numbered, named-ordered, beyond}
 use Rattle.meaning_merge.proofs.Keeping.{none_some, name-same, each-found, found-each}
 use Rattle.meaning_merge.proofs.MergeLaws.{filter-append}
@@ -38,6 +38,7 @@ use Rattle.meaning_merge.proofs.MovedLaws.{has-number, in-number}
 use Rattle.meaning_merge.proofs.Numbers.{both, two, never, number-same, is_in-append, is_in-number, in-append, in-left, in-right, in-each, each-in, Apart, Distinct, distinct-left, distinct-right, distinct-append, distinct-differ, picked, passed, split-distinct}
 use Rattle.meaning_merge.proofs.Paths.{distinct-filter}
 use Rattle.meaning_merge.proofs.Touched.{fits-distinct}
+use Rattle.meaning_merge.proofs.Used.{used-more}
 
 -- columns of links are plain, where CREATE TABLE could have made them
 
@@ -214,13 +215,13 @@ module _ (lost : LinkRow → Bool) where
   each-without P Q (t ∷ ts) of each = (of t each.0, each-without P Q ts of each.1)
 
 -- TABLES TO WHICH A HISTORY MAY BE RESTORED
-pub record CanFollow (cs : List Commit) (ts : Tables) : Type 0 where
+pub record CanFollow (first : ℕ) (cs : List Commit) (ts : Tables) : Type 0 where
   pub named : AreNamed ts
   pub numbered : EachTable ts (λ t. IsNumbered t.1)
   pub columns : EachTable ts (λ t. columns_stand t.1.columns ≡ true)
   pub rows : EachTable ts (λ t. table_fits t.1 ≡ true)
   pub numbers : Distinct (links ts)
-  pub drawn : EachLink (links ts) (λ l. is_some (commit_of l.link.tx cs) ≡ true)
+  pub drawn : EachLink (links ts) (λ l. is_used first cs l.link.tx ≡ true)
 
 each-zip : (P Q : List ℕ × Rows → Type 0) (ts : Tables) → EachTable ts P → EachTable ts Q → EachTable ts (λ t. P t × Q t)
 each-zip P Q [] one other = tt
@@ -234,16 +235,16 @@ filter-in p (x ∷ xs) l is = by (p x) is (λ h. filter-in p xs l h)
     by true h go = ⊎_elim (λ (e : l ≡ x). inl e) (λ (later : In l (filter p xs)). inr (go later)) h
     by false h go = inr (go h)
 
-pub past-follows : (cs : List Commit) (n : ℕ) (ts : Tables) (lost : LinkRow → Bool) → IsHistory cs → past [] cs n ≡ Some ts → CanFollow cs (without_lost lost ts)
-past-follows cs n ts lost history at = record {
+pub past-follows : (first : ℕ) (cs : List Commit) (n : ℕ) (ts : Tables) (lost : LinkRow → Bool) → IsHistory first cs → past [] cs n ≡ Some ts → CanFollow first cs (without_lost lost ts)
+past-follows first cs n ts lost history at = record {
   named = named-without lost ts (ordered-named ts (history.ordered n ts at));
   numbered = each-without lost (λ t. IsNumbered t.1) (λ t. IsNumbered t.1) ts (λ t rise. rise-without lost 0 t.1.next t.1.columns t.1.rows rise) (ordered-numbered ts (history.ordered n ts at));
   columns = each-without lost (λ t. columns_stand t.1.columns ≡ true) (λ t. columns_stand t.1.columns ≡ true) ts (λ t stand. stand) (history.columns n ts at);
   rows = each-without lost (λ t. (columns_stand t.1.columns ≡ true) × (table_fits t.1 ≡ true)) (λ t. table_fits t.1 ≡ true) ts (λ t both_so. table-fits lost t.1 (stand-plain t.1.columns both_so.0) both_so.1)
       (each-zip (λ t. columns_stand t.1.columns ≡ true) (λ t. table_fits t.1 ≡ true) ts (history.columns n ts at) (each-fit ts (both (rows_fit ts) (differ same_number (map (λ l. l.link) (links ts))) (history.fit n ts at)).0));
   numbers = subst (λ (ls : List LinkRow). Distinct ls) (sym (links-left lost ts)) (distinct-filter (left lost) (links ts) (fits-distinct ts (history.fit n ts at)));
-  drawn = subst (λ (ls : List LinkRow). EachLink ls (λ l. is_some (commit_of l.link.tx cs) ≡ true)) (sym (links-left lost ts))
-      (in-each (λ l. is_some (commit_of l.link.tx cs) ≡ true) (filter (left lost) (links ts)) (λ l is. each-in (λ x. is_some (commit_of x.link.tx cs) ≡ true) (links ts) l (history.drawn n ts at) (filter-in (left lost) (links ts) l is)));
+  drawn = subst (λ (ls : List LinkRow). EachLink ls (λ l. is_used first cs l.link.tx ≡ true)) (sym (links-left lost ts))
+      (in-each (λ l. is_used first cs l.link.tx ≡ true) (filter (left lost) (links ts)) (λ l is. each-in (λ x. is_used first cs x.link.tx ≡ true) (links ts) l (history.drawn n ts at) (filter-in (left lost) (links ts) l is)));
 }
 
 -- LINKS OF TABLES IN ANOTHER ORDER: each has the links of the other list's table of its name
@@ -467,8 +468,8 @@ none-older : (i : ℕ) (ts : Tables) → EachTable ts (λ t. nat_le t.1.version 
 none-older i [] each = refl
 none-older i (t ∷ ts) each = ap (λ b. cond b (t ∷ older i ts) (older i ts)) each.0 ∙ none-older i ts each.1
 
-pub restore-follows : (cs : List Commit) (target : Tables) (d : Commit) → IsHistory cs → CanFollow cs target → d.tables ≡ restored_tables (tables_after [] cs) target (length cs + 1) → Follows cs d
-restore-follows cs target d history can is = record {
+pub restore-follows : (first : ℕ) (cs : List Commit) (target : Tables) (d : Commit) → IsHistory first cs → CanFollow first cs target → d.tables ≡ restored_tables (tables_after [] cs) target (length cs + 1) → Follows first cs d
+restore-follows first cs target d history can is = record {
   versions = subst (λ (ts : Tables). EachTable ts (λ t. (0 < t.1.version) × (t.1.version ≤ (length cs + 1)))) (sym is) (each (λ t. (0 < t.1.version) × (t.1.version ≤ (length cs + 1))) (λ name t at. (omega arith, omega arith)));
   same = λ i es le at. subst (λ (ts : Tables). Subsequence es (older i ts)) (sym is) (subst (λ (ts : Tables). Subsequence es ts) (sym (none-older i (restored_tables (tables_after [] cs) target (length cs + 1)) (each (λ t. nat_le t.1.version i ≡ false) (λ name t here. beyond (length cs + 1) i (omega (arith, le)))))) (all-leave es));
   ordered = subst (λ (ts : Tables). AreOrdered ts) (sym is) (named-ordered (restored_tables (tables_after [] cs) target (length cs + 1)) names (each (λ t. IsNumbered t.1) (λ name t at. found-each (λ u. IsNumbered u) target name t can.numbered at)));
@@ -476,11 +477,11 @@ restore-follows cs target d history can is = record {
   fit = subst (λ (ts : Tables). Fits ts) (sym is) (two (rows_fit (restored_tables (tables_after [] cs) target (length cs + 1))) (differ same_number (map (λ l. l.link) (links (restored_tables (tables_after [] cs) target (length cs + 1)))))
       (fit-each (restored_tables (tables_after [] cs) target (length cs + 1)) (each (λ t. table_fits t.1 ≡ true) (λ name t at. found-each (λ u. table_fits u ≡ true) target name t can.rows at)))
       (distinct-differ (links (restored_tables (tables_after [] cs) target (length cs + 1))) (reordered target can.numbers (restored_tables (tables_after [] cs) target (length cs + 1)) names (each (λ t. (u : Rows) × (table_of target t.0 ≡ Some u) × (table_links u ≡ table_links t.1)) (λ name t at. (t, at, refl))))));
-  drawn = subst (λ (ts : Tables). EachLink (links ts) (λ l. is_some (commit_of l.link.tx (cs ++ d ∷ [])) ≡ true)) (sym is)
-      (in-each (λ l. is_some (commit_of l.link.tx (cs ++ d ∷ [])) ≡ true) (links (restored_tables (tables_after [] cs) target (length cs + 1)))
-      (links-each (λ l. is_some (commit_of l.link.tx (cs ++ d ∷ [])) ≡ true) (restored_tables (tables_after [] cs) target (length cs + 1))
-      (each (λ t. (l : LinkRow) → In l (table_links t.1) → is_some (commit_of l.link.tx (cs ++ d ∷ [])) ≡ true)
-      (λ name t at l there. commit-more l.link.tx d cs (each-in (λ x. is_some (commit_of x.link.tx cs) ≡ true) (links target) l can.drawn (found-in target name t l at there))))));
+  drawn = subst (λ (ts : Tables). EachLink (links ts) (λ l. is_used first (cs ++ d ∷ []) l.link.tx ≡ true)) (sym is)
+      (in-each (λ l. is_used first (cs ++ d ∷ []) l.link.tx ≡ true) (links (restored_tables (tables_after [] cs) target (length cs + 1)))
+      (links-each (λ l. is_used first (cs ++ d ∷ []) l.link.tx ≡ true) (restored_tables (tables_after [] cs) target (length cs + 1))
+      (each (λ t. (l : LinkRow) → In l (table_links t.1) → is_used first (cs ++ d ∷ []) l.link.tx ≡ true)
+      (λ name t at l there. used-more first l.link.tx d cs (each-in (λ x. is_used first cs x.link.tx ≡ true) (links target) l can.drawn (found-in target name t l at there))))));
 }
   where
     last : AreNamed (tables_after [] cs)

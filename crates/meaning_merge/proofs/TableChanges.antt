@@ -19,6 +19,7 @@ use Rattle.meaning_merge.proofs.Numbers.{never}
 use Rattle.meaning_merge.proofs.RowChanges.{rows-changed, rows-made}
 use Rattle.meaning_merge.proofs.TableByTable.{table_of-append}
 use Rattle.meaning_merge.proofs.Touched as touched
+use Rattle.meaning_merge.proofs.Used.{unused-none}
 
 some_same : (x y : Rows) → Some x ≡ Some y → x ≡ y
 some_same x y e = cc
@@ -322,7 +323,7 @@ becomes-old b t later e = by (t.version == 0) e
     by true e = absurd cc
     by false e = refl
 
-module _ (cs : List Commit) (tx : ℕ) (base copy : Tables) (names : List (List ℕ)) (next : ℕ) (history : IsHistory cs) (txn : IsTransaction cs tx base copy names next) (current : AreCurrent base (tables_after [] cs) names) where
+module _ (first : ℕ) (cs : List Commit) (tx : ℕ) (base copy : Tables) (names : List (List ℕ)) (next : ℕ) (history : IsHistory first cs) (txn : IsTransaction first cs tx base copy names next) (current : AreCurrent base (tables_after [] cs) names) where
   abbrev committed : Tables
   committed = tables_after [] cs
 
@@ -339,16 +340,16 @@ module _ (cs : List Commit) (tx : ℕ) (base copy : Tables) (names : List (List 
   fresh = filter (λ t. t.1.version == 0) copy
 
   base_named : AreNamed base
-  base_named = touched.base_named cs tx base copy names next history txn current
+  base_named = touched.base_named first cs tx base copy names next history txn current
 
   copy_named : AreNamed copy
-  copy_named = touched.copy_named cs tx base copy names next history txn current
+  copy_named = touched.copy_named first cs tx base copy names next history txn current
 
   last_named : AreNamed committed
-  last_named = touched.last_named cs tx base copy names next history txn current
+  last_named = touched.last_named first cs tx base copy names next history txn current
 
   same_touched : filter (of_base number fate) base ≡ filter (of_base number fate) committed
-  same_touched = touched.same_touched cs tx base copy names next history txn current
+  same_touched = touched.same_touched first cs tx base copy names next history txn current
 
   by_name : EachTable base (λ t. fate_of (Some t.1) (table_of copy t.0) ≡ fate t.0)
   by_name = each-found (λ t. fate_of (Some t.1) (table_of copy t.0) ≡ fate t.0) base base_named (λ t is. ap (λ (o : Option Rows). fate_of o (table_of copy t.0)) (sym is))
@@ -386,12 +387,12 @@ module _ (cs : List Commit) (tx : ℕ) (base copy : Tables) (names : List (List 
   no_kept = each-found (λ u. table_of (kept_in number fate committed) u.0 ≡ None) fresh fresh_named (λ u is. ⊎_elim
       (λ (e : table_of (kept_in number fate committed) u.0 ≡ None). e)
       (λ (e : table_of (new_ones number copy) u.0 ≡ None). absurd (none_some (as_version number u.1) (sym e ∙ version-found number fresh u.0 u.1 is)))
-      (kept_or_new cs tx base copy names next history txn current u.0))
+      (kept_or_new first cs tx base copy names next history txn current u.0))
 
   are_new : EachTable fresh (IsNew number (kept_in number fate committed))
   are_new = each-both (λ u. table_of (kept_in number fate committed) u.0 ≡ None) (λ u. (columns_stand u.1.columns ≡ true) × IsNumbered u.1) (IsNew number (kept_in number fate committed)) fresh (λ u none rest. (none, rest.0, rest.1)) no_kept
       (each-both (λ u. columns_stand u.1.columns ≡ true) (λ u. IsNumbered u.1) (λ u. (columns_stand u.1.columns ≡ true) × IsNumbered u.1) fresh (λ u stand numbered. (stand, numbered))
-      (copy-stand txn.copy_of (touched.base_committed cs tx base copy names next history txn current))
+      (copy-stand txn.copy_of (touched.base_committed first cs tx base copy names next history txn current))
       (each-filter (λ u. IsNumbered u.1) (λ t. t.1.version == 0) copy (ordered-numbered copy txn.ordered)))
 
   -- THE CHANGES LEAD from the committed tables to the merged ones
@@ -411,7 +412,7 @@ module _ (cs : List Commit) (tx : ℕ) (base copy : Tables) (names : List (List 
       → rows_step r (records.Commit tx (length r.commits + 1) branch (commit_changes base copy)) ≡ Some (with_commit r (commit_to r.commits tx branch (merge (tables_after [] r.commits) base copy (length r.commits + 1))))
   commit-taken r branch is drawn =
       ap (λ b. cond (b && is_none (commit_of tx r.commits) && (tx / 2 ^ 32 == r.opening)) (fitting r tx branch (with_table_changes (length r.commits + 1) (tables_after [] r.commits) (commit_changes base copy))) None) (is-self (length r.commits + 1))
-      ∙ ap (λ (o : Option Commit). cond (is_none o && (tx / 2 ^ 32 == r.opening)) (fitting r tx branch (with_table_changes (length r.commits + 1) (tables_after [] r.commits) (commit_changes base copy))) None) (ap (commit_of tx) is ∙ txn.open_yet)
+      ∙ ap (λ (o : Option Commit). cond (is_none o && (tx / 2 ^ 32 == r.opening)) (fitting r tx branch (with_table_changes (length r.commits + 1) (tables_after [] r.commits) (commit_changes base copy))) None) (ap (commit_of tx) is ∙ unused-none first cs tx txn.unused)
       ∙ ap (λ b. cond b (fitting r tx branch (with_table_changes (length r.commits + 1) (tables_after [] r.commits) (commit_changes base copy))) None) (ap (λ n. n == r.opening) drawn ∙ is-self r.opening)
       ∙ ap (fitting r tx branch) (ap (λ (ds : List Commit). with_table_changes (length ds + 1) (tables_after [] ds) (commit_changes base copy)) is ∙ changes-merge ∙ ap (λ (ds : List Commit). Some (merge (tables_after [] ds) base copy (length ds + 1))) (sym is))
-      ∙ ap (λ b. cond b (Some (with_commit r (commit_to r.commits tx branch (merge (tables_after [] r.commits) base copy (length r.commits + 1))))) None) (ap (λ (ds : List Commit). fits (merge (tables_after [] ds) base copy (length ds + 1))) is ∙ merged_fit cs tx base copy names next history txn current)
+      ∙ ap (λ b. cond b (Some (with_commit r (commit_to r.commits tx branch (merge (tables_after [] r.commits) base copy (length r.commits + 1))))) None) (ap (λ (ds : List Commit). fits (merge (tables_after [] ds) base copy (length ds + 1))) is ∙ merged_fit first cs tx base copy names next history txn current)

@@ -3,7 +3,7 @@ use Rattle.std.proofs.Common.{◌≡◌, ◌⊎◌, ⊎_elim, ℕ, ◌+◌, ◌=
 use Rattle.std.specs.List.{filter}
 use Rattle.dl_base.specs.declared.value.LinkNo.{LinkNo}
 use Rattle.dl_base.specs.declared.value.LinkRow.{LinkRow}
-use Rattle.meaning_areas.specs.Commits.{Commit, commit_of, tables_after}
+use Rattle.meaning_areas.specs.Commits.{Commit, tables_after}
 use Rattle.meaning_areas.specs.Same.{same_rows}
 use Rattle.meaning_areas.specs.Stands.{past}
 use Rattle.meaning_areas.proofs.Equal.{rows-decide}
@@ -11,7 +11,7 @@ use Rattle.meaning_settling.proofs.KeyedLaws.{either, false_true, or-right}
 use Rattle.meaning_tables.specs.Fits.{fits, rows_fit}
 use Rattle.meaning_tables.specs.Links.{table_links, links}
 use Rattle.meaning_tables.specs.Tables.{Rows, Tables, table_of}
-use Rattle.meaning_merge.specs.History.{EachTable, older, IsHistory, IsTransaction, AreCurrent, version, is_among}
+use Rattle.meaning_merge.specs.History.{EachTable, older, IsHistory, IsTransaction, AreCurrent, is_used, version, is_among}
 use Rattle.meaning_merge.specs.Merging.{Fate, stays, goes, becomes, fate_of, new_ones, merge, AreNamed}
 use Rattle.meaning_merge.specs.Touching.{In, is_in, EachLink, Untouched, Touches}
 use Rattle.meaning_merge.proofs.Histories.{past-last, past-within, ordered-named, not-zero, not-next, is-self, within}
@@ -79,7 +79,7 @@ the_some (Some t) e = (t, refl)
 the_some None e = absurd (false_true e)
 
 -- A TRANSACTION WITHOUT A CONFLICT
-module _ (cs : List Commit) (tx : ℕ) (base copy : Tables) (names : List (List ℕ)) (next : ℕ) (history : IsHistory cs) (txn : IsTransaction cs tx base copy names next) (current : AreCurrent base (tables_after [] cs) names) where
+module _ (first : ℕ) (cs : List Commit) (tx : ℕ) (base copy : Tables) (names : List (List ℕ)) (next : ℕ) (history : IsHistory first cs) (txn : IsTransaction first cs tx base copy names next) (current : AreCurrent base (tables_after [] cs) names) where
   abbrev pub committed : Tables
   committed = tables_after [] cs
 
@@ -219,10 +219,7 @@ module _ (cs : List Commit) (tx : ℕ) (base copy : Tables) (names : List (List 
 
   -- no committed link has a number of this transaction
   pub not_own : (l : LinkRow) → In l (links committed) → l.link.tx ≡ tx → ⊥
-  not_own l is own = none_there (commit_of l.link.tx cs) (ap (λ n. commit_of n cs) own ∙ txn.open_yet) (each-in (λ x. is_some (commit_of x.link.tx cs) ≡ true) (links committed) l (history.drawn (length cs) committed at_last) is)
-    where
-      none_there : (o : Option Commit) → o ≡ None → is_some o ≡ true → ⊥
-      none_there o none some = false_true (sym (ap is_some none) ∙ some)
+  not_own l is own = false_true (sym txn.unused ∙ ap (is_used first cs) (sym own) ∙ each-in (λ x. is_used first cs x.link.tx ≡ true) (links committed) l (history.drawn (length cs) committed at_last) is)
 
   -- what is touched in the copy has no number of an untouched committed table
   pub copy_apart : Apart (picked (of_copy number fate) copy) (passed (of_base number fate) committed)

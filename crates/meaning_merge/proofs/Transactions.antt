@@ -1,5 +1,5 @@
 -- A transaction of a history stays one: at its begin, at each statement, and where others commit.
-use Rattle.std.proofs.Common.{◌≡◌, ◌≢◌, ◌⊎◌, inl, inr, ℕ, ◌==◌, ◌≤◌, ◌&&◌, ◌||◌, List, [], ◌∷◌, ◌++◌, Bool, true, false, cond, bytes_eq, length, nat_le, Option, Some, None, is_some, Ok, refl, sym, ◌∙◌, ap, subst, arith}
+use Rattle.std.proofs.Common.{◌≡◌, ◌≢◌, ◌⊎◌, inl, inr, ℕ, ◌==◌, ◌≤◌, ◌&&◌, ◌||◌, List, [], ◌∷◌, ◌++◌, Bool, true, false, cond, bytes_eq, length, nat_le, nat_lt, Option, Some, None, is_some, Ok, refl, sym, ◌∙◌, ap, subst, arith}
 use Rattle.std.specs.List.{AllByRecursion, list_any}
 use Rattle.std.specs.Option.{option_or}
 use Rattle.std.proofs.lemmas.Bool.Decides.{nat_tests}
@@ -8,7 +8,6 @@ use Rattle.dl_base.specs.declared.statement.Stmt.{Stmt}
 use Rattle.dl_base.specs.declared.value.LinkRow.{LinkRow}
 use Rattle.meaning_areas.specs.Commits.{Commit, commit_of, columns_stand, tables_after}
 use Rattle.meaning_areas.proofs.Tables.{commit_of-there}
-use Rattle.meaning_settling.proofs.KeyedLaws.{false_true}
 use Rattle.meaning_sql.specs.declared.Context.{Context}
 use Rattle.meaning_statements.specs.Changing.{Changed, change}
 use Rattle.meaning_tables.specs.Fits.{Fits}
@@ -18,13 +17,14 @@ use Rattle.sql_invariants.specs.Free.{IsFree, is_ahead}
 use Rattle.sql_invariants.proofs.Changes.{change_made}
 use Rattle.sql_invariants.proofs.Ordered.{kept_ordered}
 use Rattle.sql_invariants.proofs.Walks.{origin}
-use Rattle.meaning_merge.specs.History.{AreMade, CopyOf, makes, drops, has, is_among, changed_by, IsHistory, IsTransaction}
+use Rattle.meaning_merge.specs.History.{AreMade, CopyOf, makes, drops, has, is_among, changed_by, IsHistory, IsTransaction, is_used}
 use Rattle.meaning_merge.specs.Touching.{In, EachLink}
 use Rattle.meaning_merge.proofs.Histories.{past-last, past-more}
 use Rattle.meaning_merge.proofs.Keeping.{name-same}
 use Rattle.meaning_merge.proofs.Numbers.{in-each, each-in, never, not_it}
 use Rattle.meaning_merge.proofs.OneTable.{Effect, EffectOf, made, gone, put, effect_of}
 use Rattle.meaning_merge.proofs.TableByTable.{table_of-append}
+use Rattle.meaning_merge.proofs.Used.{not-used}
 
 some_same : (x y : Rows) → Some x ≡ Some y → x ≡ y
 some_same x y e = cc
@@ -140,16 +140,16 @@ recursion-each P (x ∷ xs) each = (each.0, recursion-each P xs each.1)
 abbrev pub KeepsFitting : Type 0
 KeepsFitting = (tables : Tables) (stmt : Stmt) (context : Context) (k : ℕ) (after : Changed) → Fits tables → IsFree tables context.tx k → change tables stmt context k ≡ Ok after → Fits after.tables × (k ≤ after.next) × IsFree after.tables context.tx after.next
 
-pub stated : KeepsFitting → (cs : List Commit) (base copy : Tables) (names more : List (List ℕ)) (next : ℕ) (stmt : Stmt) (context : Context) (after : Changed) → IsTransaction cs context.tx base copy names next
+pub stated : KeepsFitting → (first : ℕ) (cs : List Commit) (base copy : Tables) (names more : List (List ℕ)) (next : ℕ) (stmt : Stmt) (context : Context) (after : Changed) → IsTransaction first cs context.tx base copy names next
     → change copy stmt context next ≡ Ok after → ((name : List ℕ) → is_among more name ≡ false → (is_among names name ≡ false) × (is_among (changed_by stmt) name ≡ false))
-    → IsTransaction cs context.tx base after.tables more after.next
-stated law cs base copy names more next stmt context after txn is among =
+    → IsTransaction first cs context.tx base after.tables more after.next
+stated law first cs base copy names more next stmt context after txn is among =
     let effect = effect_of copy stmt context next after is in
     let fitting = law copy stmt context next after txn.fit txn.free is in
     let P : LinkRow → Type 0 = λ l. In l (links base) ⊎ (l.link.tx ≡ context.tx) in
     record {
       begun = txn.begun;
-      open_yet = txn.open_yet;
+      unused = txn.unused;
       copy_of = copy-after base copy after.tables (changed_by stmt) effect txn.copy_of;
       named = λ name lacks. other-after copy after.tables (changed_by stmt) name effect (among name lacks).1 ∙ txn.named name (among name lacks).0;
       ordered = kept_ordered copy stmt context next after txn.ordered is;
@@ -168,12 +168,12 @@ none-ahead : (tx k : ℕ) (ls : List LinkRow) → EachLink ls (λ l. (l.link.tx 
 none-ahead tx k [] each = refl
 none-ahead tx k (l ∷ ls) each = ap (λ b. (b && nat_le k l.link.k) || list_any (λ (x : LinkRow). is_ahead tx k x.link) ls) each.0 ∙ none-ahead tx k ls each.1
 
-pub begun : (cs : List Commit) (tx : ℕ) → IsHistory cs → commit_of tx cs ≡ None → IsTransaction cs tx (tables_after [] cs) (tables_after [] cs) [] 1
-begun cs tx history new =
+pub begun : (first : ℕ) (cs : List Commit) (tx : ℕ) → IsHistory first cs → is_used first cs tx ≡ false → IsTransaction first cs tx (tables_after [] cs) (tables_after [] cs) [] 1
+begun first cs tx history new =
     let last = tables_after [] cs in
     record {
       begun = (length cs, past-last [] cs);
-      open_yet = new;
+      unused = new;
       copy_of = copy-self last;
       named = λ name lacks. refl;
       ordered = history.ordered (length cs) last (past-last [] cs);
@@ -185,18 +185,15 @@ begun cs tx history new =
     same_tx : (a : ℕ) → (a == tx) ≡ true → a ≡ tx
     same_tx a e = grind (arith, nat_tests)
 
-    none_there : (o : Option Commit) → o ≡ None → is_some o ≡ true → ⊥
-    none_there o none some = false_true (sym (ap is_some none) ∙ some)
-
     not_drawn : (l : LinkRow) → In l (links (tables_after [] cs)) → l.link.tx ≡ tx → ⊥
-    not_drawn l is own = none_there (commit_of l.link.tx cs) (ap (λ n. commit_of n cs) own ∙ new) (each-in (λ x. is_some (commit_of x.link.tx cs) ≡ true) (links (tables_after [] cs)) l (history.drawn (length cs) (tables_after [] cs) (past-last [] cs)) is)
+    not_drawn l is own = not-used first cs l.link.tx tx (each-in (λ x. is_used first cs x.link.tx ≡ true) (links (tables_after [] cs)) l (history.drawn (length cs) (tables_after [] cs) (past-last [] cs)) is) own new
 
 -- ANOTHER COMMITS
-pub others : (cs : List Commit) (d : Commit) (tx : ℕ) (base copy : Tables) (names : List (List ℕ)) (next : ℕ) → IsTransaction cs tx base copy names next → commit_of d.tx cs ≡ None → tx ≢ d.tx
-    → IsTransaction (cs ++ d ∷ []) tx base copy names next
-others cs d tx base copy names next txn new apart = record {
+pub others : (first : ℕ) (cs : List Commit) (d : Commit) (tx : ℕ) (base copy : Tables) (names : List (List ℕ)) (next : ℕ) → IsTransaction first cs tx base copy names next → commit_of d.tx cs ≡ None → tx ≢ d.tx
+    → IsTransaction first (cs ++ d ∷ []) tx base copy names next
+others first cs d tx base copy names next txn new apart = record {
   begun = (txn.begun.0, past-more [] d cs txn.begun.0 base txn.begun.1);
-  open_yet = commit_of-there d tx cs new apart ∙ txn.open_yet;
+  unused = ap (λ (o : Option Commit). nat_lt tx first || is_some o) (commit_of-there d tx cs new apart) ∙ txn.unused;
   copy_of = txn.copy_of;
   named = txn.named;
   ordered = txn.ordered;
@@ -206,11 +203,11 @@ others cs d tx base copy names next txn new apart = record {
 }
 
 -- MORE NAMES, as of a statement that was refused
-pub more-named : (cs : List Commit) (tx : ℕ) (base copy : Tables) (names more : List (List ℕ)) (next : ℕ) → IsTransaction cs tx base copy names next → ((name : List ℕ) → is_among more name ≡ false → is_among names name ≡ false)
-    → IsTransaction cs tx base copy more next
-more-named cs tx base copy names more next txn among = record {
+pub more-named : (first : ℕ) (cs : List Commit) (tx : ℕ) (base copy : Tables) (names more : List (List ℕ)) (next : ℕ) → IsTransaction first cs tx base copy names next → ((name : List ℕ) → is_among more name ≡ false → is_among names name ≡ false)
+    → IsTransaction first cs tx base copy more next
+more-named first cs tx base copy names more next txn among = record {
   begun = txn.begun;
-  open_yet = txn.open_yet;
+  unused = txn.unused;
   copy_of = txn.copy_of;
   named = λ name lacks. txn.named name (among name lacks);
   ordered = txn.ordered;

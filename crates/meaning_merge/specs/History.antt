@@ -1,5 +1,5 @@
 -- The history behind a commit: what holds of the tables after each commit, and of a transaction's base, copy and named tables.
-use Rattle.std.specs.Prelude.{◌≡◌, ◌⊎◌, ℕ, ◌<◌, ◌≤◌, true, false, nat_le, List, [], ◌∷◌, filter, bytes_eq, Bool, Option, Some, None, is_some}
+use Rattle.std.specs.Prelude.{◌≡◌, ◌⊎◌, ◌||◌, ℕ, ◌<◌, ◌≤◌, true, false, nat_le, nat_lt, List, [], ◌∷◌, filter, bytes_eq, Bool, Option, Some, None, is_some}
 use Rattle.std.specs.List.{list_any}
 use Rattle.dl_base.specs.declared.statement.Stmt.{Stmt}
 use Rattle.dl_base.specs.declared.statement.Stmt.TheVariants as statements
@@ -26,8 +26,13 @@ pub data Subsequence : Tables → Tables → Type 0 where
 abbrev pub older : ℕ → Tables → Tables
 older n ts = filter (λ t. nat_le t.1.version n) ts
 
--- A HISTORY: what the tables after each commit owe to those before. Commit 0 has none.
-pub record IsHistory (cs : List Commit) : Type 0 where
+-- a number that some transaction has had: that of a commit, or one below those that are drawn now
+abbrev pub is_used : ℕ → List Commit → ℕ → Bool
+is_used first cs tx = nat_lt tx first || is_some (commit_of tx cs)
+
+-- A HISTORY: what the tables after each commit owe to those before. Commit 0 has none. Numbers of transactions are drawn from
+-- `first` on: what an opening finds may have links of transactions that never committed, but of earlier openings alone.
+pub record IsHistory (first : ℕ) (cs : List Commit) : Type 0 where
   -- the version of a table is the number of the commit that last changed it
   pub versions : (n : ℕ) (ts : Tables) → past [] cs n ≡ Some ts → EachTable ts (λ t. (0 < t.1.version) × (t.1.version ≤ n))
   -- what was not changed since an earlier commit is as it was there, in the same order
@@ -36,8 +41,8 @@ pub record IsHistory (cs : List Commit) : Type 0 where
   -- CREATE TABLE could have made the columns
   pub columns : (n : ℕ) (ts : Tables) → past [] cs n ≡ Some ts → EachTable ts (λ t. columns_stand t.1.columns ≡ true)
   pub fit : (n : ℕ) (ts : Tables) → past [] cs n ≡ Some ts → Fits ts
-  -- each link has the number of a transaction that has committed
-  pub drawn : (n : ℕ) (ts : Tables) → past [] cs n ≡ Some ts → EachLink (links ts) (λ l. is_some (commit_of l.link.tx cs) ≡ true)
+  -- the number of each link's transaction is used
+  pub drawn : (n : ℕ) (ts : Tables) → past [] cs n ≡ Some ts → EachLink (links ts) (λ l. is_used first cs l.link.tx ≡ true)
 
 -- tables that the copy has made: of version 0, with columns that CREATE TABLE could have made
 abbrev pub AreMade : Tables → Type 0
@@ -53,9 +58,10 @@ abbrev pub is_among : List (List ℕ) → List ℕ → Bool
 is_among names name = list_any (bytes_eq name) names
 
 -- A TRANSACTION of a history: its base are the tables after some commit, and its copy is what its statements made of them.
-pub record IsTransaction (cs : List Commit) (tx : ℕ) (base copy : Tables) (names : List (List ℕ)) (next : ℕ) : Type 0 where
+pub record IsTransaction (first : ℕ) (cs : List Commit) (tx : ℕ) (base copy : Tables) (names : List (List ℕ)) (next : ℕ) : Type 0 where
   pub begun : (n : ℕ) × (past [] cs n ≡ Some base)
-  pub open_yet : commit_of tx cs ≡ None
+  -- its number is not used: it has not committed
+  pub unused : is_used first cs tx ≡ false
   pub copy_of : CopyOf base copy
   -- each table that base and copy tell apart is named
   pub named : (name : List ℕ) → is_among names name ≡ false → table_of copy name ≡ table_of base name

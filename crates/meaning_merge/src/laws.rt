@@ -16,7 +16,7 @@ ghost use Rattle.meaning_sql.specs.declared.Context as contexts;
 ghost use Rattle.meaning_statements.specs.Changing.{Changed, change};
 ghost use Rattle.meaning_tables.specs.Tables.{Rise, Tables, table_of};
 ghost use Rattle.meaning_merge.specs.Claimed.{IsClaimed};
-ghost use Rattle.meaning_merge.specs.History.{AreCurrent, IsHistory, IsTransaction, changed_by, is_among};
+ghost use Rattle.meaning_merge.specs.History.{AreCurrent, IsHistory, IsTransaction, is_used, changed_by, is_among};
 ghost use Rattle.meaning_merge.specs.Merging.{AreNamed, commit_changes, merge, merged_at, row_changes};
 ghost use Rattle.meaning_merge.specs.Restoring.{restore_changes, restored_tables, without_lost};
 ghost use Rattle.meaning_merge.specs.Touching.{In, OnePath, Touches};
@@ -48,21 +48,21 @@ pub fn links_after_a_commit_path_by_path()
 /// that is refused and adds its names alone, and a commit of another transaction; and what is merged into the last tables without a conflict goes on with the history, as do
 /// restored tables of the past, whatever links of theirs are lost.
 pub fn a_history_goes_on()
-    ensures begins { IsHistory [] }
-    ensures begun { (cs : List Commit) (tx : ℕ) → IsHistory cs → commit_of tx cs ≡ None → IsTransaction cs tx (tables_after [] cs) (tables_after [] cs) [] 1 }
-    ensures stated { (cs : List Commit) (base copy : Tables) (names more : List (List ℕ)) (next : ℕ) (stmt : statements.Stmt) (context : contexts.Context) (after : Changed)
-        → IsTransaction cs context.tx base copy names next → change copy stmt context next ≡ Ok after
+    ensures begins { (first : ℕ) → IsHistory first [] }
+    ensures begun { (first : ℕ) (cs : List Commit) (tx : ℕ) → IsHistory first cs → is_used first cs tx ≡ false → IsTransaction first cs tx (tables_after [] cs) (tables_after [] cs) [] 1 }
+    ensures stated { (first : ℕ) (cs : List Commit) (base copy : Tables) (names more : List (List ℕ)) (next : ℕ) (stmt : statements.Stmt) (context : contexts.Context) (after : Changed)
+        → IsTransaction first cs context.tx base copy names next → change copy stmt context next ≡ Ok after
         → ((name : List ℕ) → is_among more name ≡ false → (is_among names name ≡ false) × (is_among (changed_by stmt) name ≡ false))
-        → IsTransaction cs context.tx base after.tables more after.next }
-    ensures named { (cs : List Commit) (tx : ℕ) (base copy : Tables) (names more : List (List ℕ)) (next : ℕ)
-        → IsTransaction cs tx base copy names next → ((name : List ℕ) → is_among more name ≡ false → is_among names name ≡ false) → IsTransaction cs tx base copy more next }
-    ensures apart { (cs : List Commit) (d : Commit) (tx : ℕ) (base copy : Tables) (names : List (List ℕ)) (next : ℕ)
-        → IsTransaction cs tx base copy names next → commit_of d.tx cs ≡ None → tx ≢ d.tx → IsTransaction (cs ++ d ∷ []) tx base copy names next }
-    ensures committed { (cs : List Commit) (tx : ℕ) (branch : Bool) (base copy : Tables) (names : List (List ℕ)) (next : ℕ)
-        → IsHistory cs → IsTransaction cs tx base copy names next → AreCurrent base (tables_after [] cs) names
-        → IsHistory (cs ++ commit_to cs tx branch (merge (tables_after [] cs) base copy (length cs + 1)) ∷ []) }
-    ensures restored { (cs : List Commit) (tx n : ℕ) (branch : Bool) (target : Tables) (lost : rows.LinkRow → Bool) → IsHistory cs → past [] cs n ≡ Some target
-        → IsHistory (cs ++ commit_to cs tx branch (restored_tables (tables_after [] cs) (without_lost lost target) (length cs + 1)) ∷ []) }
+        → IsTransaction first cs context.tx base after.tables more after.next }
+    ensures named { (first : ℕ) (cs : List Commit) (tx : ℕ) (base copy : Tables) (names more : List (List ℕ)) (next : ℕ)
+        → IsTransaction first cs tx base copy names next → ((name : List ℕ) → is_among more name ≡ false → is_among names name ≡ false) → IsTransaction first cs tx base copy more next }
+    ensures apart { (first : ℕ) (cs : List Commit) (d : Commit) (tx : ℕ) (base copy : Tables) (names : List (List ℕ)) (next : ℕ)
+        → IsTransaction first cs tx base copy names next → commit_of d.tx cs ≡ None → tx ≢ d.tx → IsTransaction first (cs ++ d ∷ []) tx base copy names next }
+    ensures committed { (first : ℕ) (cs : List Commit) (tx : ℕ) (branch : Bool) (base copy : Tables) (names : List (List ℕ)) (next : ℕ)
+        → IsHistory first cs → IsTransaction first cs tx base copy names next → AreCurrent base (tables_after [] cs) names
+        → IsHistory first (cs ++ commit_to cs tx branch (merge (tables_after [] cs) base copy (length cs + 1)) ∷ []) }
+    ensures restored { (first : ℕ) (cs : List Commit) (tx n : ℕ) (branch : Bool) (target : Tables) (lost : rows.LinkRow → Bool) → IsHistory first cs → past [] cs n ≡ Some target
+        → IsHistory first (cs ++ commit_to cs tx branch (restored_tables (tables_after [] cs) (without_lost lost target) (length cs + 1)) ∷ []) }
 {
     changes_keep_tables_fitting();
 }
@@ -70,8 +70,8 @@ pub fn a_history_goes_on()
 /// Where each named table has in the committed tables the version that it has in the base, the touched tables are the same in
 /// both, and what the transaction made of them is what the merge leaves.
 pub fn a_commit_without_conflict_touches_what_it_saw()
-    ensures { (cs : List Commit) (tx : ℕ) (base copy : Tables) (names : List (List ℕ)) (next : ℕ)
-        → IsHistory cs → IsTransaction cs tx base copy names next → AreCurrent base (tables_after [] cs) names
+    ensures { (first : ℕ) (cs : List Commit) (tx : ℕ) (base copy : Tables) (names : List (List ℕ)) (next : ℕ)
+        → IsHistory first cs → IsTransaction first cs tx base copy names next → AreCurrent base (tables_after [] cs) names
         → Touches base copy (tables_after [] cs) (merge (tables_after [] cs) base copy (length cs + 1)) }
 {}
 
@@ -85,8 +85,8 @@ pub fn changes_of_rows_lead_to_them()
 /// What a commit without a conflict owes to a whole stored part before it: its links come from those before by what its
 /// transaction gives and takes, where the takes are on paths of their own and have files.
 pub fn a_commit_without_conflict_merges()
-    ensures { (cs : List Commit) (tx : ℕ) (base copy : Tables) (names : List (List ℕ)) (next : ℕ)
-        → IsHistory cs → IsTransaction cs tx base copy names next → AreCurrent base (tables_after [] cs) names
+    ensures { (first : ℕ) (cs : List Commit) (tx : ℕ) (base copy : Tables) (names : List (List ℕ)) (next : ℕ)
+        → IsHistory first cs → IsTransaction first cs tx base copy names next → AreCurrent base (tables_after [] cs) names
         → (bs : List Backup) (rows_opening links_opening : ℕ) (k : Kept) → IsWhole (stored_with cs bs rows_opening links_opening k) → IsClaimed base copy (tables_after [] cs) k.files
         → Merges cs k (record { gives = gives base copy; takes = takes base copy; fill = false }) (merge (tables_after [] cs) base copy (length cs + 1)) }
 {}
@@ -94,22 +94,22 @@ pub fn a_commit_without_conflict_merges()
 /// The changes that base and copy give lead from the committed tables to the merged ones, whose rows fit; so the fold of Rows
 /// takes the record of a commit without a conflict.
 pub fn changes_of_a_commit_lead_to_its_tables()
-    ensures lead { (cs : List Commit) (tx : ℕ) (base copy : Tables) (names : List (List ℕ)) (next : ℕ)
-        → IsHistory cs → IsTransaction cs tx base copy names next → AreCurrent base (tables_after [] cs) names
+    ensures lead { (first : ℕ) (cs : List Commit) (tx : ℕ) (base copy : Tables) (names : List (List ℕ)) (next : ℕ)
+        → IsHistory first cs → IsTransaction first cs tx base copy names next → AreCurrent base (tables_after [] cs) names
         → with_table_changes (length cs + 1) (tables_after [] cs) (commit_changes base copy) ≡ Some (merge (tables_after [] cs) base copy (length cs + 1)) }
-    ensures fit { (cs : List Commit) (tx : ℕ) (base copy : Tables) (names : List (List ℕ)) (next : ℕ)
-        → IsHistory cs → IsTransaction cs tx base copy names next → AreCurrent base (tables_after [] cs) names → Fits (merge (tables_after [] cs) base copy (length cs + 1)) }
-    ensures taken { (r : Commits) (tx : ℕ) (branch : Bool) (base copy : Tables) (names : List (List ℕ)) (next : ℕ)
-        → IsHistory r.commits → IsTransaction r.commits tx base copy names next → AreCurrent base (tables_after [] r.commits) names → tx / 2 ^ 32 ≡ r.opening
+    ensures fit { (first : ℕ) (cs : List Commit) (tx : ℕ) (base copy : Tables) (names : List (List ℕ)) (next : ℕ)
+        → IsHistory first cs → IsTransaction first cs tx base copy names next → AreCurrent base (tables_after [] cs) names → Fits (merge (tables_after [] cs) base copy (length cs + 1)) }
+    ensures taken { (first : ℕ) (r : Commits) (tx : ℕ) (branch : Bool) (base copy : Tables) (names : List (List ℕ)) (next : ℕ)
+        → IsHistory first r.commits → IsTransaction first r.commits tx base copy names next → AreCurrent base (tables_after [] r.commits) names → tx / 2 ^ 32 ≡ r.opening
         → rows_step r (records.Commit tx (length r.commits + 1) branch (commit_changes base copy)) ≡ Some (with_commit r (commit_to r.commits tx branch (merge (tables_after [] r.commits) base copy (length r.commits + 1)))) }
 {}
 
 /// The changes that a restore writes lead from the committed tables to the restored ones, whose rows fit; so the fold of Rows takes
 /// its record.
 pub fn changes_of_a_restore_lead_to_its_tables()
-    ensures lead { (cs : List Commit) (n : ℕ) (target : Tables) (lost : rows.LinkRow → Bool) → IsHistory cs → past [] cs n ≡ Some target
+    ensures lead { (first : ℕ) (cs : List Commit) (n : ℕ) (target : Tables) (lost : rows.LinkRow → Bool) → IsHistory first cs → past [] cs n ≡ Some target
         → with_table_changes (length cs + 1) (tables_after [] cs) (restore_changes (tables_after [] cs) (without_lost lost target)) ≡ Some (restored_tables (tables_after [] cs) (without_lost lost target) (length cs + 1)) }
-    ensures taken { (r : Commits) (tx n : ℕ) (branch : Bool) (target : Tables) (lost : rows.LinkRow → Bool) → IsHistory r.commits → past [] r.commits n ≡ Some target
+    ensures taken { (first : ℕ) (r : Commits) (tx n : ℕ) (branch : Bool) (target : Tables) (lost : rows.LinkRow → Bool) → IsHistory first r.commits → past [] r.commits n ≡ Some target
         → commit_of tx r.commits ≡ None → tx / 2 ^ 32 ≡ r.opening
         → rows_step r (records.Commit tx (length r.commits + 1) branch (restore_changes (tables_after [] r.commits) (without_lost lost target)))
         ≡ Some (with_commit r (commit_to r.commits tx branch (restored_tables (tables_after [] r.commits) (without_lost lost target) (length r.commits + 1)))) }

@@ -126,8 +126,8 @@ impl Sessions {
         }
         let context = context_of(given)?;
         let mut next_link = 1;
-        let outcome = evaluate(alloc, &mut self.tables, stmt, &context, &mut next_link)?;
-        Ok(Turn::Answered(answer_of(outcome)))
+        let made = evaluate(alloc, &mut self.tables, stmt, &context, &mut next_link)?;
+        Ok(Turn::Answered(answer_of(made.outcome)))
     }
 }
 

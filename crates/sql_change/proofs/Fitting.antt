@@ -8,12 +8,13 @@ use Rattle.meaning_sql.specs.declared.Context.{Context}
 use Rattle.meaning_statements.specs.Changing.{Changed, change}
 use Rattle.meaning_tables.specs.Fits.{RowsFit, rows_fit, table_fits}
 use Rattle.meaning_tables.specs.Tables.{Rows, Tables, table_of}
+use Rattle.sql_change.specs.declared.changing.Changed.{Changed as Told}
 
 -- by the law of what statements make, and by what a refusal leaves
 pub rows_kept : ((tables : Tables) (stmt : Stmt) (context : Context) (k : ℕ) (after : Changed) → RowsFit tables → change tables stmt context k ≡ Ok after → RowsFit after.tables)
-    → (olds news : Tables) (stmt : Stmt) (context : Context) (k next : ℕ) (r : Result ℕ SqlFault) → RowsFit olds
-    → IfOk r (λ count. change olds stmt context k ≡ Ok (record { tables = news; next = next; count = count })) → OnErr r ((news ≡ olds) × (next ≡ k)) → RowsFit news
-rows_kept law olds news stmt context k next (Ok count) fit ok err = law olds stmt context k (record { tables = news; next = next; count = count }) fit ok
+    → (olds news : Tables) (stmt : Stmt) (context : Context) (k next : ℕ) (r : Result Told SqlFault) → RowsFit olds
+    → IfOk r (λ made. change olds stmt context k ≡ Ok (record { tables = news; next = next; count = made.count })) → OnErr r ((news ≡ olds) × (next ≡ k)) → RowsFit news
+rows_kept law olds news stmt context k next (Ok made) fit ok err = law olds stmt context k (record { tables = news; next = next; count = made.count }) fit ok
 rows_kept law olds news stmt context k next (Err e) fit ok err = subst (λ (tables : Tables). RowsFit tables) (sym err.0) fit
 
 -- the table of a name, where the rows of each fit

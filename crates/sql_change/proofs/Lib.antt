@@ -10,5 +10,6 @@ pub mod OneSet
 pub mod Reversed
 pub mod Standing
 pub mod StoodKeys
+pub mod Touched
 pub mod Unset
 pub mod Whole

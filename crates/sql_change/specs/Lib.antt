@@ -1,3 +1,4 @@
-pub mod Steps
-pub mod Parts
 pub mod Keys
+pub mod Parts
+pub mod Steps
+pub mod Touched

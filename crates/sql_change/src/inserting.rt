@@ -8,15 +8,17 @@ ghost use Rattle.meaning_statements.specs.Changing as meant;
 ghost use Rattle.meaning_statements.specs.Changing.{keys_hold};
 ghost use Rattle.meaning_tables.specs.First.{first_number, has_key};
 ghost use Rattle.meaning_tables.specs.Fits.{table_fits};
+ghost use Rattle.sql_rows.specs.Beside.{RowsAgreeBeside};
 ghost use Rattle.sql_rows.specs.NewRows.{counted};
 ghost use Rattle.sql_keys.specs.Keys.{IsKeyAt};
+ghost use Rattle.sql_change.specs.Touched.{numbers_from};
 ghost use Rattle.sql_change.specs.Parts as parts;
 
 use crate::changing::Outcome;
 use crate::keys::check_keys;
 use crate::places::{check_all_types, check_lengths, target_places, tuple_types};
 use dl_base::limits::{MOST_ROWS, ROW_NUMBERS};
-use dl_base::{Copied, Expr, Limit, List, Name, Row, SqlFault};
+use dl_base::{Copied, Expr, Limit, List, Memory, Name, Row, SqlFault};
 use sql_expr::{Columns, Context};
 use sql_keys::only_key;
 use sql_rows::{NewRows, tuple_rows};
@@ -37,6 +39,8 @@ pub(crate) fn inserted(
     requires fits { table_fits table.now ≡ true }
     ensures made { Computes (λ m. (m.table, (m.next, m.count))) result (parts.inserted table.now names.now tuples.now context.entry.now k) }
     ensures few { IfOk result (λ m. m.next ≤ link_numbers) }
+    ensures beside { IfOk result (λ m. RowsAgreeBeside m.touched table.now.rows m.table.rows) }
+    ensures told { IfOk result (λ m. length m.touched ≡ m.count) }
 {
     let seen: Columns = List::empty(alloc);
     let at = Row {
@@ -62,6 +66,8 @@ fn put_in(
     requires fits { table_fits table.now ≡ true }
     ensures made { Computes (λ m. (m.table, (m.next, m.count))) result (parts.put_in seen.now at.now table.now places.now tuples.now context.entry.now k) }
     ensures few { IfOk result (λ m. m.next ≤ link_numbers) }
+    ensures beside { IfOk result (λ m. RowsAgreeBeside m.touched table.now.rows m.table.rows) }
+    ensures told { IfOk result (λ m. length m.touched ≡ m.count) }
 {
     check_lengths(tuples, places)?;
     typed_in(alloc, seen, at, table, places, tuples, context, k)
@@ -83,6 +89,8 @@ fn typed_in(
     requires fits { table_fits table.now ≡ true }
     ensures made { Computes (λ m. (m.table, (m.next, m.count))) result (parts.typed_in seen.now at.now table.now places.now tuples.now context.entry.now k) }
     ensures few { IfOk result (λ m. m.next ≤ link_numbers) }
+    ensures beside { IfOk result (λ m. RowsAgreeBeside m.touched table.now.rows m.table.rows) }
+    ensures told { IfOk result (λ m. length m.touched ≡ m.count) }
 {
     let types = tuple_types(alloc, tuples, seen)?;
     check_all_types(table.columns(), places, &types)?;
@@ -105,6 +113,8 @@ fn filled(
     requires fits { table_fits table.now ≡ true }
     ensures made { Computes (λ m. (m.table, (m.next, m.count))) result (parts.filled seen.now at.now table.now places.now tuples.now context.entry.now k) }
     ensures few { IfOk result (λ m. m.next ≤ link_numbers) }
+    ensures beside { IfOk result (λ m. RowsAgreeBeside m.touched table.now.rows m.table.rows) }
+    ensures told { IfOk result (λ m. length m.touched ≡ m.count) }
 {
     let made = new_rows(alloc, seen, at, table, places, tuples, context, k)?;
     grown(alloc, table, made)
@@ -147,17 +157,33 @@ fn grown(alloc: Global, table: &Table, made: NewRows) -> Result<Outcome, SqlFaul
     requires wide { All (λ r. length r.values ≡ length table.now.columns) made.rows }
     ensures made { Computes (λ m. (m.table, (m.next, m.count))) result (parts.grown table.now (counted table.now.next made.rows) made.next (length made.rows)) }
     ensures next { IfOk result (λ m. m.next ≡ made.next) }
+    ensures beside { IfOk result (λ m. RowsAgreeBeside m.touched table.now.rows m.table.rows) }
+    ensures told { IfOk result (λ m. length m.touched ≡ m.count) }
 {
     if !has_room(table, made.rows.len()) {
         return Err(SqlFault::Limit(Limit::Rows));
     }
     let count = made.rows.len() as u64;
+    let touched = numbers_from(alloc, table.next_number(), count)?;
     let after = with_new_rows(alloc, table, made.rows)?;
     Ok(Outcome {
         table: after,
         next: made.next,
         count,
+        touched,
     })
+}
+
+// So many numbers from one on.
+fn numbers_from(alloc: Global, first: u64, count: u64) -> Result<List<u64>, Memory>
+    requires { first + count ≤ row_numbers }
+    ensures { IfOk result (λ numbers. numbers ≡ numbers_from first count) }
+{
+    let mut numbers = List::empty(alloc);
+    for i in 0..count {
+        numbers.push(first + i)?;
+    }
+    Ok(numbers)
 }
 
 // A table with more rows, where the keys differ: one key column is asked of the index, several are looked at row by row.

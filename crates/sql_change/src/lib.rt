@@ -8,5 +8,5 @@ mod keys;
 mod places;
 mod updating;
 
-pub use changing::change;
+pub use changing::{Changed, change};
 pub use sql_table::{gives_takes, links};

@@ -1,10 +1,11 @@
 // UPDATE and DELETE: a table after them.
-ghost use Rattle.std.specs.Prelude.{◌≡◌, ◌≤◌, IfOk, Ok, false, suc, true};
+ghost use Rattle.std.specs.Prelude.{◌≡◌, ◌≤◌, IfOk, Ok, false, length, suc, true};
 ghost use Rattle.dl_base.specs.Limits.{link_numbers};
 ghost use Rattle.meaning_sql.specs.Faults.{Computes};
 ghost use Rattle.meaning_statements.specs.Changing.{keys_hold};
 ghost use Rattle.meaning_statements.specs.Sources as sources_meant;
 ghost use Rattle.meaning_tables.specs.Fits.{table_fits};
+ghost use Rattle.sql_rows.specs.Beside.{RowsAgreeBeside};
 ghost use Rattle.sql_rows.specs.Touching.{Touches};
 ghost use Rattle.sql_change.specs.Parts as parts;
 
@@ -33,6 +34,8 @@ pub(crate) fn updated(
     requires fits { table_fits table.now ≡ true }
     ensures made { Computes (λ m. (m.table, (m.next, m.count))) result (parts.updated name.now table.now sets.now filter.now context.entry.now k) }
     ensures few { IfOk result (λ m. m.next ≤ link_numbers) }
+    ensures beside { IfOk result (λ m. RowsAgreeBeside m.touched table.now.rows m.table.rows) }
+    ensures told { IfOk result (λ m. length m.touched ≡ m.count) }
 {
     let names = set_names(alloc, sets)?;
     let places = set_places(alloc, table.columns(), &names)?;
@@ -54,6 +57,8 @@ fn set_under(
     requires fits { table_fits table.now ≡ true }
     ensures made { Computes (λ m. (m.table, (m.next, m.count))) result (parts.set_at (sources_meant.own_columns name.now table.now) table.now places.now sets.now filter.now context.entry.now k) }
     ensures few { IfOk result (λ m. m.next ≤ link_numbers) }
+    ensures beside { IfOk result (λ m. RowsAgreeBeside m.touched table.now.rows m.table.rows) }
+    ensures told { IfOk result (λ m. length m.touched ≡ m.count) }
 {
     let columns = own_columns(alloc, name, table.columns())?;
     set_at(alloc, &columns, table, places, sets, filter, context, k)
@@ -74,6 +79,8 @@ fn set_at(
     requires fits { table_fits table.now ≡ true }
     ensures made { Computes (λ m. (m.table, (m.next, m.count))) result (parts.set_at columns.now table.now places.now sets.now filter.now context.entry.now k) }
     ensures few { IfOk result (λ m. m.next ≤ link_numbers) }
+    ensures beside { IfOk result (λ m. RowsAgreeBeside m.touched table.now.rows m.table.rows) }
+    ensures told { IfOk result (λ m. length m.touched ≡ m.count) }
 {
     let types = types_of_sets(alloc, sets, columns)?;
     filter_type(columns, filter)?;
@@ -97,6 +104,8 @@ fn set_rows(
     requires fits { table_fits table.now ≡ true }
     ensures made { Computes (λ m. (m.table, (m.next, m.count))) result (parts.set_rows columns.now table.now places.now sets.now filter.now context.entry.now k) }
     ensures few { IfOk result (λ m. m.next ≤ link_numbers) }
+    ensures beside { IfOk result (λ m. RowsAgreeBeside m.touched table.now.rows m.table.rows) }
+    ensures told { IfOk result (λ m. length m.touched ≡ m.count) }
 {
     let made = update_rows(alloc, table, columns, context, filter, places, sets, k)?;
     let keyed = sets_key(table.columns(), places);
@@ -129,6 +138,7 @@ fn replaced(alloc: Global, made: Updated, differ: bool) -> Result<Outcome, SqlFa
     requires { differ ≡ true → keys_hold made.table ≡ Ok true }
     ensures made { Computes (λ m. (m.table, (m.next, m.count))) result (parts.replaced made.table made.next made.met) }
     ensures next { IfOk result (λ m. m.next ≡ made.next) }
+    ensures same { IfOk result (λ m. (m.table ≡ made.table) × (m.count ≡ made.met) × (m.touched ≡ made.numbers)) }
 {
     if !differ {
         check_keys(alloc, &made.table)?;
@@ -137,6 +147,7 @@ fn replaced(alloc: Global, made: Updated, differ: bool) -> Result<Outcome, SqlFa
         table: made.table,
         next: made.next,
         count: made.met,
+        touched: made.numbers,
     })
 }
 
@@ -153,6 +164,8 @@ pub(crate) fn deleted(
     requires fits { table_fits table.now ≡ true }
     ensures made { Computes (λ m. (m.table, (m.next, m.count))) result (parts.deleted name.now table.now filter.now context.entry.now k) }
     ensures few { IfOk result (λ m. m.next ≤ link_numbers) }
+    ensures beside { IfOk result (λ m. RowsAgreeBeside m.touched table.now.rows m.table.rows) }
+    ensures told { IfOk result (λ m. length m.touched ≡ m.count) }
 {
     let columns = own_columns(alloc, name, table.columns())?;
     left_over(alloc, &columns, table, filter, context, k)
@@ -171,13 +184,16 @@ fn left_over(
     requires fits { table_fits table.now ≡ true }
     ensures made { Computes (λ m. (m.table, (m.next, m.count))) result (parts.left_over columns.now table.now filter.now context.entry.now k) }
     ensures few { IfOk result (λ m. m.next ≤ link_numbers) }
+    ensures beside { IfOk result (λ m. RowsAgreeBeside m.touched table.now.rows m.table.rows) }
+    ensures told { IfOk result (λ m. length m.touched ≡ m.count) }
 {
     filter_type(columns, filter)?;
     let left = delete_rows(alloc, table, columns, context, filter)?;
-    let count = table.len().saturating_sub(left.len()) as u64;
+    let count = table.len().saturating_sub(left.table.len()) as u64;
     Ok(Outcome {
-        table: left,
+        table: left.table,
         next: k,
         count,
+        touched: left.removed,
     })
 }

@@ -8,12 +8,12 @@ use Rattle.dl_base.specs.declared.answer.Limit.TheVariants as limits
 use Rattle.dl_base.specs.declared.sql_fault.SqlFault.{SqlFault}
 use Rattle.dl_base.specs.declared.sql_fault.SqlFault.TheVariants as faults
 use Rattle.dl_base.specs.declared.statement.TableRef.{TableRef}
-use Rattle.meaning_sql.specs.Faults.{◌>>=◌, ensure, try_map}
+use Rattle.meaning_sql.specs.Faults.{◌>>=◌, ensure}
 use Rattle.meaning_statements.specs.Sources.{Source, present, source_name, apart, sources_of}
 use Rattle.meaning_tables.specs.Fits.{RowsFit, rows_fit, table_fits}
 use Rattle.meaning_tables.specs.Tables.{Rows, Tables, table_of}
-use Rattle.sql_query.specs.Sources.{one_source, sources_found}
-use Rattle.sql_query.specs.Walking.{AllFit}
+use Rattle.sql_join.specs.Sources.{sources_found}
+use Rattle.sql_join.specs.Walking.{AllFit}
 
 -- the table of a name
 found_fits : (tables : Tables) (name : List ℕ) (t : Rows) → RowsFit tables → table_of tables name ≡ Some t → table_fits t ≡ true

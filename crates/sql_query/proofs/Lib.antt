@@ -1,10 +1,5 @@
-pub mod Walking
-pub mod Reach
-pub mod Early
-pub mod Passed
 pub mod Fitting
 pub mod Folds
-pub mod Apart
 pub mod Orders
 pub mod Merging
 pub mod Groups

@@ -1,9 +1,5 @@
-pub mod Sources
-pub mod Reach
-pub mod Seeking
-pub mod Folding
-pub mod Walking
 pub mod Items
+pub mod Folding
 pub mod Keys
 pub mod Ordering
 pub mod Merging

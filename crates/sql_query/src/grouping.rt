@@ -13,10 +13,11 @@ ghost use Rattle.sql_query.specs.Grouping.{key_at, known_places, row_grouped, ro
 
 use crate::group_key::GroupKey;
 use crate::keys::is_key;
-use dl_base::{Expr, Item, List, Memory, Ref, Row, Select, SqlFault};
+use dl_base::{Item, List, Memory, Ref, Row, Select, SqlFault};
 use indexmap::IndexMap;
 use meaning_sql::{AggregateScope, Columns, SqlType};
 use sql_expr::{kind_type, place_of};
+use sql_join::has_aggregate;
 use std::alloc::Global;
 use std::collections::VecDeque;
 
@@ -35,30 +36,6 @@ fn have_aggregate(items: &[Item]) -> bool
     ensures { result ≡ list_any (λ i. meant.has_aggregate i.expr) items.now }
 {
     items.iter().any(|item| has_aggregate(&item.expr))
-}
-
-/// Whether an aggregate stands in an expression.
-pub(crate) fn has_aggregate(expr: &Expr) -> bool
-    ensures { result ≡ meant.has_aggregate expr.now }
-{
-    match expr {
-        Expr::Number(_) => false,
-        Expr::Literal(_) => false,
-        Expr::Null => false,
-        Expr::Column(_) => false,
-        Expr::Not(a) => has_aggregate(a.get()),
-        Expr::Minus(a) => has_aggregate(a.get()),
-        Expr::Binary(_, a, b) => has_aggregate(a.get()) || has_aggregate(b.get()),
-        Expr::IsNull(a, _) => has_aggregate(a.get()),
-        Expr::CountAll => true,
-        Expr::Aggregate(_, _) => true,
-        Expr::Dlvalue1(a) => has_aggregate(a.get()),
-        Expr::Dlvalue2(a, b) => has_aggregate(a.get()) || has_aggregate(b.get()),
-        Expr::Dlvalue3(a, b, c) => {
-            has_aggregate(a.get()) || has_aggregate(b.get()) || has_aggregate(c.get())
-        }
-        Expr::Access(_, a) => has_aggregate(a.get()),
-    }
 }
 
 /// Where the items of a query stand. A name of GROUP BY that means no column is left out, and is refused at its own turn.

@@ -2,19 +2,13 @@
 #![tactic(auto)]
 
 mod answering;
-mod conditions;
 mod folding;
 mod group_key;
 mod grouping;
 mod items;
-mod joining;
-mod kept;
 mod keys;
 mod ordering;
-mod seeking;
 mod selecting;
 mod sorting;
-mod sources;
-mod state;
 
 pub use selecting::select;

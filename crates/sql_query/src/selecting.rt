@@ -7,20 +7,18 @@ ghost use Rattle.meaning_tables.specs.Fits.{RowsFit};
 ghost use Rattle.sql_query.specs.Answering.{answers_of};
 ghost use Rattle.sql_query.specs.Folding.{items_of};
 ghost use Rattle.sql_query.specs.Planning as planning;
-ghost use Rattle.sql_query.specs.Walking.{AllFit};
+ghost use Rattle.sql_join.specs.Walking.{AllFit};
 
 use crate::answering::shown;
-use crate::conditions::condition_types;
 use crate::folding::{have_operand, is_folding};
 use crate::grouping::{group_places, scope_of};
 use crate::items::item_types;
-use crate::joining::combined;
 use crate::keys::order_keys;
 use crate::sorting::sorted;
-use crate::sources::{Source, are_few, columns_of, sources_of};
 use dl_base::{Grid, Item, Limit, List, Row, Select, SqlFault};
 use meaning_sql::{Columns, Context};
 use sql_expr::filter_type;
+use sql_join::{Source, are_few, columns_of, combined, condition_types, sources_of};
 use sql_table::Tables;
 use std::alloc::Global;
 

@@ -1,5 +1,5 @@
 -- A DELETE row by row, in a copy of the table.
-use Rattle.std.proofs.Common.{◌≡◌, ◌+◌, ◌++◌, ℕ, true, false, List, [], ◌∷◌, Result, Ok, Err, drop, refl, sym, ap, ◌∙◌, subst, append_assoc}
+use Rattle.std.proofs.Common.{◌≡◌, ◌+◌, ◌++◌, ℕ, true, false, List, [], ◌∷◌, Result, Ok, Err, drop, is_some, length, refl, sym, ap, ◌∙◌, subst, append_assoc}
 use Rattle.dl_base.specs.declared.sql_fault.SqlFault.{SqlFault}
 use Rattle.dl_base.specs.declared.statement.Expr.{Expr}
 use Rattle.dl_base.specs.declared.value.Row.{Row}
@@ -8,7 +8,8 @@ use Rattle.meaning_sql.specs.Columns.{Columns}
 use Rattle.meaning_sql.specs.Conditions.{holds_all}
 use Rattle.meaning_sql.specs.Faults.{◌>>=◌, and_then}
 use Rattle.meaning_statements.specs.Changing.{remaining}
-use Rattle.meaning_tables.specs.Tables.{Rows, Rise, without_row}
+use Rattle.meaning_tables.specs.Tables.{Rows, Rise, row_of, without_row}
+use Rattle.sql_rows.proofs.Beside.{is_there, one_fewer}
 use Rattle.sql_rows.proofs.Placing.{taken_out}
 use Rattle.sql_rows.proofs.Rising.{rise_left_out}
 
@@ -85,6 +86,12 @@ module _ (columns : Columns) (context : Context) (t : Rows) (conditions : List E
 
       risen : Rise 0 t.next (kept ++ (number, row) ∷ drop (i + 1) t.rows)
       risen = subst (λ (rs : Left). Rise 0 t.next rs) here rise
+
+  -- and there is one row fewer
+  pub one_fewer_so : (left after : Rows) (i number : ℕ) (row : Row) → drop i t.rows ≡ (number, row) ∷ drop (i + 1) t.rows → after ≡ record left { rows = without_row left.rows number } → LeftSo left i → length after.rows + 1 ≡ length left.rows
+  one_fewer_so left after i number row at unset (kept, rows, is) =
+      ap (λ (x : Rows). length x.rows + 1) unset
+      ∙ one_fewer left.rows number (subst (λ (rs : Left). is_some (row_of rs number) ≡ true) (sym (rows ∙ ap (λ (rs : Left). kept ++ rs) at)) (is_there kept (drop (i + 1) t.rows) number row))
 
   -- the next row's condition is refused
   pub stopped : (left : Rows) (i number : ℕ) (row : Row) (e : SqlFault) → drop i t.rows ≡ (number, row) ∷ drop (i + 1) t.rows → holds_all columns context conditions row ≡ Err e → LeftSo left i → whole t.rows ≡ Err e

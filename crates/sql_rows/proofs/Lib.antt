@@ -1,4 +1,5 @@
 pub mod Alone
+pub mod Beside
 pub mod Leaving
 pub mod Placing
 pub mod Rising

@@ -2,6 +2,8 @@
 #![tactic(auto)]
 
 mod cells;
+mod laws;
 mod rows;
 
-pub use rows::{NewRows, Updated, delete_rows, tuple_rows, update_rows};
+pub use laws::{agreement_adds_up, agreement_is_beside_more};
+pub use rows::{Deleted, NewRows, Updated, delete_rows, tuple_rows, update_rows};

@@ -1,19 +1,20 @@
 // The rows that INSERT puts in, and tables after UPDATE and DELETE.
-ghost use Rattle.std.specs.Prelude.{◌≡◌, ◌≤◌, All, IfErr, IfOk, Ok, [], length, map, suc, true};
+ghost use Rattle.std.specs.Prelude.{◌≡◌, ◌≤◌, ◌+◌, ◌∷◌, All, IfErr, IfOk, Ok, [], is_some, length, map, suc, true};
 ghost use Rattle.dl_base.specs.Limits.{link_numbers};
 ghost use Rattle.dl_base.specs.declared.sql_fault.SqlFault.TheVariants as faults;
 ghost use Rattle.meaning_sql.specs.Faults.{Computes, try_map, option_list};
 ghost use Rattle.meaning_sql.specs.Values.{meaning};
 ghost use Rattle.meaning_statements.specs.Changing as meant;
 ghost use Rattle.meaning_tables.specs.Fits.{table_fits};
-ghost use Rattle.meaning_tables.specs.Tables.{Rise, with_row};
+ghost use Rattle.meaning_tables.specs.Tables.{Rise, row_of, with_row, without_row};
 ghost use Rattle.sql_keys.specs.Finding.{IsUnmet, PassesOver};
 ghost use Rattle.sql_keys.specs.declared.finding.KeyRows.TheVariants as key_rows;
+ghost use Rattle.sql_rows.specs.Beside.{RowsAgreeBeside};
 ghost use Rattle.sql_rows.specs.NewRows.{tuple_rows};
 ghost use Rattle.sql_rows.specs.Touching.{Touches};
 
 use crate::cells::{PutRow, stored_row};
-use dl_base::{Column, Copied, Expr, List, Name, Row, SqlFault, Value};
+use dl_base::{Column, Copied, Expr, List, Memory, Name, Row, SqlFault, Value};
 use sql_expr::{Columns, Context, cell, filter_holds, value};
 use sql_keys::{KeyRows, rows_asked};
 use sql_table::Table;
@@ -39,6 +40,17 @@ pub struct Updated {
     pub met: u64,
     /// Which rows may have new values.
     pub touched: KeyRows,
+    /// The numbers of the rows that were met.
+    pub numbers: List<u64>,
+}
+
+/// A table after a DELETE.
+#[derive(Drop)]
+pub struct Deleted {
+    /// The table with the rows that were not met.
+    pub table: Table,
+    /// The numbers of the rows that were met.
+    pub removed: List<u64>,
 }
 
 // The values of expressions at a row, in order.
@@ -138,23 +150,25 @@ pub fn tuple_rows(
     Ok(NewRows { rows, next: k })
 }
 
-/// What a DELETE leaves of a table: a copy, which shares what stays with the table. Where the condition asks for a key, the row that
-/// has it is looked at alone.
+/// What a DELETE leaves of a table: a copy, which shares what stays with the table, and the numbers of the rows that went. Where the
+/// condition asks for a key, the row that has it is looked at alone.
 pub fn delete_rows(
     alloc: Global,
     table: &Table,
     columns: &Columns,
     context: &Context,
     filter: &Option<Expr>,
-) -> Result<Table, SqlFault>
+) -> Result<Deleted, SqlFault>
     requires { table_fits table.now ≡ true }
-    ensures rows { Computes (λ t. t.rows) result (meant.remaining columns.now context.entry.now (option_list filter.now) table.now.rows) }
-    ensures others { IfOk result (λ t. t ≡ record table.now { rows = t.rows }) }
+    ensures rows { Computes (λ d. d.table.rows) result (meant.remaining columns.now context.entry.now (option_list filter.now) table.now.rows) }
+    ensures others { IfOk result (λ d. d.table ≡ record table.now { rows = d.table.rows }) }
+    ensures beside { IfOk result (λ d. RowsAgreeBeside d.removed table.now.rows d.table.rows) }
+    ensures told { IfOk result (λ d. length d.table.rows + length d.removed ≡ length table.now.rows) }
 {
     match rows_asked(table, columns, filter)? {
         KeyRows::All => delete_each(alloc, table, columns, context, filter),
         KeyRows::One(number) => delete_one(alloc, table, columns, context, filter, number),
-        KeyRows::Nothing => Ok(table.copy()?),
+        KeyRows::Nothing => Ok(untouched(alloc, table)?),
     }
 }
 
@@ -165,11 +179,14 @@ fn delete_each(
     columns: &Columns,
     context: &Context,
     filter: &Option<Expr>,
-) -> Result<Table, SqlFault>
-    ensures rows { Computes (λ t. t.rows) result (meant.remaining columns.now context.entry.now (option_list filter.now) table.now.rows) }
-    ensures others { IfOk result (λ t. t ≡ record table.now { rows = t.rows }) }
+) -> Result<Deleted, SqlFault>
+    ensures rows { Computes (λ d. d.table.rows) result (meant.remaining columns.now context.entry.now (option_list filter.now) table.now.rows) }
+    ensures others { IfOk result (λ d. d.table ≡ record table.now { rows = d.table.rows }) }
+    ensures beside { IfOk result (λ d. RowsAgreeBeside d.removed table.now.rows d.table.rows) }
+    ensures told { IfOk result (λ d. length d.table.rows + length d.removed ≡ length table.now.rows) }
 {
     let mut left = table.copy()?;
+    let mut removed = List::empty(alloc);
     for i in 0..table.len() {
         match table.at(i) {
             Some((number, row)) => {
@@ -177,12 +194,21 @@ fn delete_each(
                 if !is_met {
                     continue;
                 }
+                removed.push(number)?;
                 left.unset(number)?;
             }
-            None => return Ok(left),
+            None => {
+                return Ok(Deleted {
+                    table: left,
+                    removed,
+                });
+            }
         }
     }
-    Ok(left)
+    Ok(Deleted {
+        table: left,
+        removed,
+    })
 }
 
 // The same where the row of a number alone may be met.
@@ -194,23 +220,57 @@ fn delete_one(
     context: &Context,
     filter: &Option<Expr>,
     number: u64,
-) -> Result<Table, SqlFault>
+) -> Result<Deleted, SqlFault>
     requires { PassesOver (IsUnmet columns.now filter.now) table.now.rows (key_rows.One number) }
-    ensures rows { Computes (λ t. t.rows) result (meant.remaining columns.now context.entry.now (option_list filter.now) table.now.rows) }
-    ensures others { IfOk result (λ t. t ≡ record table.now { rows = t.rows }) }
+    ensures rows { Computes (λ d. d.table.rows) result (meant.remaining columns.now context.entry.now (option_list filter.now) table.now.rows) }
+    ensures others { IfOk result (λ d. d.table ≡ record table.now { rows = d.table.rows }) }
+    ensures beside { IfOk result (λ d. RowsAgreeBeside d.removed table.now.rows d.table.rows) }
+    ensures told { IfOk result (λ d. length d.table.rows + length d.removed ≡ length table.now.rows) }
 {
     numbered(table);
     match table.row(number) {
         Some(row) => {
             if !filter_holds(alloc, filter, row, columns, context)? {
-                return Ok(table.copy()?);
+                return Ok(untouched(alloc, table)?);
             }
-            let mut left = table.copy()?;
-            left.unset(number)?;
-            Ok(left)
+            Ok(without_one(alloc, table, number)?)
         }
-        None => Ok(table.copy()?),
+        None => Ok(untouched(alloc, table)?),
     }
+}
+
+// A table of which no row is met.
+fn untouched(alloc: Global, table: &Table) -> Result<Deleted, Memory>
+    ensures { IfOk result (λ d. d ≡ record { table = table.now; removed = [] }) }
+{
+    Ok(Deleted {
+        table: table.copy()?,
+        removed: List::empty(alloc),
+    })
+}
+
+// A table without a row that is there.
+fn without_one(alloc: Global, table: &Table, number: u64) -> Result<Deleted, Memory>
+    requires { is_some (row_of table.now.rows number) ≡ true }
+    ensures table { IfOk result (λ d. d.table ≡ record table.now { rows = without_row table.now.rows number }) }
+    ensures beside { IfOk result (λ d. RowsAgreeBeside d.removed table.now.rows d.table.rows) }
+    ensures told { IfOk result (λ d. length d.table.rows + length d.removed ≡ length table.now.rows) }
+{
+    let removed = only(alloc, number)?;
+    let mut left = table.copy()?;
+    left.unset(number)?;
+    Ok(Deleted {
+        table: left,
+        removed,
+    })
+}
+
+fn only(alloc: Global, number: u64) -> Result<List<u64>, Memory>
+    ensures { IfOk result (λ numbers. numbers ≡ number ∷ []) }
+{
+    let mut numbers = List::empty(alloc);
+    numbers.push(number)?;
+    Ok(numbers)
 }
 
 // The numbers of rows rise, as a table tells with their count.
@@ -303,13 +363,15 @@ pub fn update_rows(
     ensures others { IfOk result (λ u. u.table ≡ record table.now { rows = u.table.rows }) }
     ensures few { IfOk result (λ u. u.next ≤ link_numbers) }
     ensures touched { IfOk result (λ u. Touches u.touched table.now.rows u.table.rows) }
+    ensures beside { IfOk result (λ u. RowsAgreeBeside u.numbers table.now.rows u.table.rows) }
+    ensures told { IfOk result (λ u. length u.numbers ≡ u.met) }
 {
     match rows_asked(table, all, filter)? {
         KeyRows::All => update_each(alloc, table, all, context, filter, places, sets, first),
         KeyRows::One(number) => update_one(
             alloc, table, all, context, filter, places, sets, first, number,
         ),
-        KeyRows::Nothing => Ok(unmet(table.copy()?, first)),
+        KeyRows::Nothing => Ok(unmet(alloc, table.copy()?, first)),
     }
 }
 
@@ -329,8 +391,11 @@ fn update_each(
     ensures others { IfOk result (λ u. u.table ≡ record table.now { rows = u.table.rows }) }
     ensures few { IfOk result (λ u. u.next ≤ link_numbers) }
     ensures touched { IfOk result (λ u. Touches u.touched table.now.rows u.table.rows) }
+    ensures beside { IfOk result (λ u. RowsAgreeBeside u.numbers table.now.rows u.table.rows) }
+    ensures told { IfOk result (λ u. length u.numbers ≡ u.met) }
 {
     let mut made = table.copy()?;
+    let mut numbers = List::empty(alloc);
     let mut k = first;
     let mut met = 0;
     for i in 0..table.len() {
@@ -342,6 +407,7 @@ fn update_each(
                 }
                 let put = updated_row(alloc, all, context, table.columns(), places, sets, k, row)?;
                 made.set(number, Row { values: put.values })?;
+                numbers.push(number)?;
                 k = put.next;
                 met += 1;
             }
@@ -351,6 +417,7 @@ fn update_each(
                     next: k,
                     met,
                     touched: KeyRows::All,
+                    numbers,
                 });
             }
         }
@@ -360,6 +427,7 @@ fn update_each(
         next: k,
         met,
         touched: KeyRows::All,
+        numbers,
     })
 }
 
@@ -382,12 +450,14 @@ fn update_one(
     ensures others { IfOk result (λ u. u.table ≡ record table.now { rows = u.table.rows }) }
     ensures few { IfOk result (λ u. u.next ≤ link_numbers) }
     ensures touched { IfOk result (λ u. Touches u.touched table.now.rows u.table.rows) }
+    ensures beside { IfOk result (λ u. RowsAgreeBeside u.numbers table.now.rows u.table.rows) }
+    ensures told { IfOk result (λ u. length u.numbers ≡ u.met) }
 {
     numbered(table);
     match table.row(number) {
         Some(row) => {
             if !filter_holds(alloc, filter, row, all, context)? {
-                return Ok(unmet(table.copy()?, first));
+                return Ok(unmet(alloc, table.copy()?, first));
             }
             let put = updated_row(
                 alloc,
@@ -399,37 +469,42 @@ fn update_one(
                 first,
                 row,
             )?;
-            set_one(table, number, put)
+            set_one(alloc, table, number, put)
         }
-        None => Ok(unmet(table.copy()?, first)),
+        None => Ok(unmet(alloc, table.copy()?, first)),
     }
 }
 
 // A table of which one row is met, which has other values.
-fn set_one(table: &Table, number: u64, put: PutRow) -> Result<Updated, SqlFault>
+fn set_one(alloc: Global, table: &Table, number: u64, put: PutRow) -> Result<Updated, SqlFault>
     ensures table { IfOk result (λ u. u.table ≡ record table.now { rows = with_row table.now.rows number (record { values = put.values }) }) }
     ensures next { IfOk result (λ u. (u.next ≡ put.next) × (u.met ≡ 1)) }
     ensures touched { IfOk result (λ u. Touches u.touched table.now.rows u.table.rows) }
+    ensures beside { IfOk result (λ u. RowsAgreeBeside u.numbers table.now.rows u.table.rows) }
+    ensures told { IfOk result (λ u. length u.numbers ≡ u.met) }
     ensures memory { IfErr result (λ e. e ≡ faults.Memory) }
 {
     let mut made = table.copy()?;
     made.set(number, Row { values: put.values })?;
+    let numbers = only(alloc, number)?;
     Ok(Updated {
         table: made,
         next: put.next,
         met: 1,
         touched: KeyRows::One(number),
+        numbers,
     })
 }
 
 // What is made of a table of which no row is met.
-fn unmet(table: Table, next: u32) -> Updated
-    ensures { result ≡ record { table = table; next = next; met = 0; touched = key_rows.Nothing } }
+fn unmet(alloc: Global, table: Table, next: u32) -> Updated
+    ensures { result ≡ record { table = table; next = next; met = 0; touched = key_rows.Nothing; numbers = [] } }
 {
     Updated {
         table,
         next,
         met: 0,
         touched: KeyRows::Nothing,
+        numbers: List::empty(alloc),
     }
 }

@@ -1,5 +1,5 @@
 -- What a statement answers, and the tables after it.
-use Rattle.std.specs.Prelude.{ℕ, List, Result, Ok, Err}
+use Rattle.std.specs.Prelude.{ℕ, List, [], Result, Ok, Err}
 use Rattle.dl_base.specs.declared.answer.Answer.{Answer}
 use Rattle.dl_base.specs.declared.answer.Answer.TheVariants as answers
 use Rattle.dl_base.specs.declared.answer.Refusal.TheVariants as reasons
@@ -12,6 +12,7 @@ use Rattle.meaning_sql.specs.declared.Context.{Context}
 use Rattle.meaning_statements.specs.Changing.{Changed, change}
 use Rattle.meaning_statements.specs.Selecting.{select}
 use Rattle.meaning_tables.specs.Tables.{Tables}
+use Rattle.sql_change.specs.declared.changing.Changed.{Changed as Told}
 use Rattle.sql_run.specs.declared.evaluating.Outcome.{Outcome}
 use Rattle.sql_run.specs.declared.evaluating.Outcome.TheVariants as outcomes
 
@@ -54,6 +55,22 @@ evaluated tables (statements.DropTable name) context k = after_change tables k d
 evaluated tables statements.Begin context k = record { outcome = outcomes.Done; tables = tables; next = k }
 evaluated tables statements.Commit context k = record { outcome = outcomes.Done; tables = tables; next = k }
 evaluated tables statements.Rollback context k = record { outcome = outcomes.Done; tables = tables; next = k }
+
+-- how many rows were put in, met or removed, and which
+abbrev pub count_of : Result Told SqlFault → Result ℕ SqlFault
+count_of (Ok told) = Ok told.count
+count_of (Err fault) = Err fault
+
+abbrev pub touched_of : Result Told SqlFault → List ℕ
+touched_of (Ok told) = told.touched
+touched_of (Err fault) = []
+
+-- how many rows an outcome tells of as put in, met or removed
+abbrev pub rows_changed : Outcome → ℕ
+rows_changed (outcomes.Changed count) = count
+rows_changed (outcomes.Rows grid) = 0
+rows_changed outcomes.Done = 0
+rows_changed (outcomes.Refused fault) = 0
 
 -- the answer that is told of an outcome
 abbrev pub answer_of : Outcome → Answer

@@ -3,4 +3,4 @@
 
 mod evaluating;
 
-pub use evaluating::{Outcome, answer_of, evaluate};
+pub use evaluating::{Evaluation, Outcome, answer_of, evaluate};

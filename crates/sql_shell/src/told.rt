@@ -46,8 +46,8 @@ fn run(alloc: Global, tables: &mut Tables, stmt: &Stmt, context: &Context) -> Re
     ensures rows { RowsFit tables.new }
 {
     let mut next_link = 1u32;
-    let outcome = evaluate(alloc, tables, stmt, context, &mut next_link)?;
-    Ok(answer_of(outcome))
+    let made = evaluate(alloc, tables, stmt, context, &mut next_link)?;
+    Ok(answer_of(made.outcome))
 }
 
 fn answer(

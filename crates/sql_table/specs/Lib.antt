@@ -5,3 +5,4 @@ pub mod Lending
 pub mod Marks
 pub mod Places
 pub mod Placing
+pub mod Roomy

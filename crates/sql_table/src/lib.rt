@@ -5,9 +5,11 @@ mod columns;
 mod index;
 mod key;
 mod link_rows;
+mod roomy;
 mod table;
 mod tables;
 
 pub use link_rows::{gives_takes, links};
+pub use roomy::RoomyTables;
 pub use table::Table;
 pub use tables::Tables;

@@ -1,5 +1,5 @@
 // One table.
-ghost use Rattle.std.specs.Prelude.{◌≡◌, ◌<◌, None, IfOk, OnOk, OnErr, length, slice_get, MatchOption, is_some, ◌+◌, ◌++◌, ◌∷◌, [], drop};
+ghost use Rattle.std.specs.Prelude.{◌≡◌, ◌<◌, None, Some, IfOk, OnOk, OnErr, length, slice_get, MatchOption, is_some, ◌+◌, ◌++◌, ◌∷◌, [], drop};
 ghost use Rattle.std.specs.Option.{option_copied, option_map};
 ghost use Rattle.dl_base.specs.Limits.{most_rows, row_numbers};
 ghost use Rattle.dl_pages.specs.Orders.{link_order};
@@ -151,13 +151,29 @@ impl Table {
         }
     }
 
+    // The row of a number, and where it stands.
+    fn find(&self, number: u64) -> Option<(usize, &Row)>
+        ensures { MatchOption result (row_of self.now.rows number ≡ None) (λ r. IsPlace self.now.rows number r.0 × (row_of self.now.rows number ≡ Some r.1.now)) }
+    {
+        let (place, first) = self.rows.first_failing(&Below { number });
+        match first {
+            Some(row) => {
+                if row.0 == number {
+                    Some((place, &row.1))
+                } else {
+                    None
+                }
+            }
+            None => None,
+        }
+    }
+
     // Where the row of a number stands.
     fn place(&self, number: u64) -> Option<usize>
         ensures { MatchOption result (row_of self.now.rows number ≡ None) (λ place. IsPlace self.now.rows number place) }
     {
-        let place = self.rows.partition_point(&Below { number });
-        match self.rows.at(place) {
-            Some(row) => { if row.0 == number { Some(place) } else { None } }
+        match self.find(number) {
+            Some((place, _)) => Some(place),
             None => None,
         }
     }
@@ -166,11 +182,8 @@ impl Table {
     pub fn row(&self, number: u64) -> Option<&Row>
         ensures { option_copied result ≡ row_of self.now.rows number }
     {
-        match self.place(number) {
-            Some(place) => match self.rows.at(place) {
-                Some(row) => Some(&row.1),
-                None => None,
-            },
+        match self.find(number) {
+            Some((_, row)) => Some(row),
             None => None,
         }
     }

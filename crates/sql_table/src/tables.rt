@@ -136,6 +136,20 @@ impl Tables {
         None
     }
 
+    // Their entries, and tables of entries. Neither takes memory.
+    pub(crate) fn into_entries(self) -> IndexMap<Name, Table>
+        ensures { result.entries ≡ self }
+    {
+        let Tables { entries } = self;
+        entries
+    }
+
+    pub(crate) fn of_entries(entries: IndexMap<Name, Table>) -> Tables
+        ensures { result ≡ entries.entries }
+    {
+        Tables { entries }
+    }
+
     /// The same tables once more. They share their rows and columns with these, so the cost grows with their names alone.
     pub fn copy(&self) -> Result<Tables, Memory>
         ensures { IfOk result (λ made. made ≡ self.now) }
@@ -152,7 +166,11 @@ impl Tables {
 }
 
 // Puts a copy of a table under a copy of its name.
-fn put_copy(entries: &mut IndexMap<Name, Table>, name: &Name, table: &Table) -> Result<(), Memory>
+pub(crate) fn put_copy(
+    entries: &mut IndexMap<Name, Table>,
+    name: &Name,
+    table: &Table,
+) -> Result<(), Memory>
     ensures { OnOk result (entries.new.entries ≡ insert_entry (pointwise ◌==◌) entries.old.entries name.now table.now) }
 {
     entries.insert(name.copy()?, table.copy()?)?;

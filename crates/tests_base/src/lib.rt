@@ -6,6 +6,8 @@ mod accessors;
 #[cfg(test)]
 mod base;
 #[cfg(test)]
+mod bench;
+#[cfg(test)]
 mod codec;
 #[cfg(test)]
 mod digits;

@@ -124,7 +124,10 @@ fn changed(
         return None;
     }
     let stmt = parse(alloc, sql.as_bytes()).ok()?;
-    Some(change(alloc, &mut fitting.tables, &stmt, context, next).ok())
+    match change(alloc, &mut fitting.tables, &stmt, context, next) {
+        Ok(made) => Some(Some(made.count)),
+        Err(_) => Some(None),
+    }
 }
 
 fn step(

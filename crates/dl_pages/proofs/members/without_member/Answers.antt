@@ -1,4 +1,4 @@
-use Rattle.std.proofs.Common.{◌≡◌, sym, ◌∙◌, ap}
+use Rattle.std.proofs.Common.{sym, ◌∙◌}
 use Rattle.std.proofs.lemmas.Result.{IfOk-weaker}
 use Rattle.dl_pages.proofs.Sets.{falls, is_less, is_gone}
 use Rattle.dl_pages.proofs.members.without_member.Goals as goal

@@ -20,7 +20,7 @@ pub returns-clause-apart : goal.returns-clause-apart
 returns-clause-apart c = others
 
 pub returns-clause-committed : goal.returns-clause-committed
-returns-clause-committed c cs tx branch base copy names next history txn current = goes-on cs _ history (merge-follows cs tx base copy names next history txn current _ refl refl)
+returns-clause-committed c first cs tx branch base copy names next history txn current = goes-on first cs _ history (merge-follows first cs tx base copy names next history txn current _ refl refl)
 
 pub returns-clause-restored : goal.returns-clause-restored
-returns-clause-restored c cs tx n branch target lost history at = goes-on cs _ history (restore-follows cs _ _ history (past-follows cs n target lost history at) refl)
+returns-clause-restored c first cs tx n branch target lost history at = goes-on first cs _ history (restore-follows first cs _ _ history (past-follows first cs n target lost history at) refl)

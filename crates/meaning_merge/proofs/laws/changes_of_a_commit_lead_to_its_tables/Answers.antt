@@ -10,4 +10,4 @@ pub returns-clause-fit : goal.returns-clause-fit
 returns-clause-fit c = merged_fit
 
 pub returns-clause-taken : goal.returns-clause-taken
-returns-clause-taken c r tx branch base copy names next history txn current drawn = commit-taken r.commits tx base copy names next history txn current r branch refl drawn
+returns-clause-taken c first r tx branch base copy names next history txn current drawn = commit-taken first r.commits tx base copy names next history txn current r branch refl drawn

@@ -1,6 +1,6 @@
 use Rattle.std.proofs.Common.{List, sym, subst}
 use Rattle.meaning_statements.specs.Sources.{Source}
-use Rattle.sql_query.specs.Walking.{AllFit}
+use Rattle.sql_join.specs.Walking.{AllFit}
 use Rattle.sql_query.proofs.Fitting.{sources_fit}
 use Rattle.sql_query.proofs.selecting.over_tables.Goals as goal
 

@@ -5,7 +5,8 @@ use Rattle.dl_base.specs.declared.value.Row.{Row}
 use Rattle.meaning_sql.specs.Faults.{◌>>=◌, option_list}
 use Rattle.meaning_statements.specs.Selecting.{combined}
 use Rattle.sql_query.specs.Answering.{answers_of}
-use Rattle.sql_query.specs.Folding.{folding, items_of, kept_of}
+use Rattle.sql_join.specs.Keeping.{kept_of}
+use Rattle.sql_query.specs.Folding.{folding, items_of}
 use Rattle.sql_query.proofs.Folds.{shown-is, few_combined}
 use Rattle.sql_query.proofs.selecting.rows_shown.Goals as goal
 

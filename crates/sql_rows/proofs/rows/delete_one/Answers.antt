@@ -1,7 +1,7 @@
 use Rattle.std.proofs.Common.{◌≡◌, true, Some, Ok, Err, rules}
 use Rattle.meaning_sql.specs.Conditions.{holds_all}
 use Rattle.meaning_sql.specs.Faults.{option_list}
-use Rattle.meaning_tables.specs.Tables.{row_of, without_row}
+use Rattle.meaning_tables.specs.Tables.{row_of}
 use Rattle.sql_rows.proofs.Alone.{alone_gone, alone_refused, refused_as}
 use Rattle.sql_rows.proofs.rows.delete_one.Goals as goal
 
@@ -14,11 +14,10 @@ returns-in_err-filter_holds-in-Some-clause-rows c =
     let is : c.from_residual.result ≡ Err e = search rules in
     refused_as _ c.from_residual.result e _ is (λ other. alone_refused c.args.columns.now c.args.context.now c.args.filter.now t c.args.number row c.numbered.ensures there c.requires e (c.in_err-filter_holds-in-Some.ensures.all other))
 
-pub returns-in_ok-unset-in-Some-clause-rows : goal.returns-in_ok-unset-in-Some-clause-rows
-returns-in_ok-unset-in-Some-clause-rows c =
+pub returns-in_ok-without_one-in-Some-clause-rows : goal.returns-in_ok-without_one-in-Some-clause-rows
+returns-in_ok-without_one-in-Some-clause-rows c =
     let t = c.args.table.now in
     let row = c.in-Some.row.now in
     let there : row_of t.rows c.args.number ≡ Some row = search rules in
     let holds : holds_all c.args.columns.now c.args.context.now (option_list c.args.filter.now) row ≡ Ok true = search rules in
-    let unset : c.unset.new.self ≡ record t { rows = without_row t.rows c.args.number } = search rules in
-    alone_gone c.args.columns.now c.args.context.now c.args.filter.now t c.args.number row c.numbered.ensures there c.requires c.unset.new.self holds unset
+    alone_gone c.args.columns.now c.args.context.now c.args.filter.now t c.args.number row c.numbered.ensures there c.requires c.in_ok-without_one-in-Some.field-0.table holds c.in_ok-without_one-in-Some.ensures.table

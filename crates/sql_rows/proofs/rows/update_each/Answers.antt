@@ -1,9 +1,11 @@
-use Rattle.std.proofs.Common.{◌≡◌, ◌+◌, ◌∷◌, true, false, drop, map, Ok, arith, rules}
+use Rattle.std.proofs.Common.{◌≡◌, ◌+◌, ◌++◌, ◌∷◌, [], ℕ, List, true, false, drop, length, map, Ok, ap, ◌∙◌, arith, rules, subst, sym}
 use Rattle.dl_base.specs.declared.value.Row.{Row}
 use Rattle.meaning_sql.specs.Conditions.{holds_all}
 use Rattle.meaning_sql.specs.Faults.{option_list}
 use Rattle.meaning_statements.specs.Changing.{updated_row}
-use Rattle.meaning_tables.specs.Tables.{with_row}
+use Rattle.meaning_tables.specs.Tables.{Rows, with_row}
+use Rattle.sql_rows.specs.Beside.{RowsAgreeBeside}
+use Rattle.sql_rows.proofs.Beside.{one_set, push_length}
 use Rattle.sql_rows.proofs.Placing.{still_of}
 use Rattle.sql_rows.proofs.Updating.{passed, rise_so, set_so}
 use Rattle.sql_rows.proofs.rows.update_each.Goals as goal
@@ -19,10 +21,12 @@ loop-i-preserved-then-not-is_met c =
     let at : drop i t.rows ≡ (number, row) ∷ drop (i + 1) t.rows = search rules in
     let holds : holds_all c.args.all.now c.args.context.now conditions row ≡ Ok false = search rules in
     record {
+      beside = c.loop-i.invariant.beside;
       few = c.loop-i.invariant.few;
       met = omega (arith, c.loop-i.invariant.met);
       others = c.loop-i.invariant.others;
       rise = c.loop-i.invariant.rise;
+      told = c.loop-i.invariant.told;
       so = passed c.args.all.now c.args.context.now t conditions c.args.places.now rights c.args.first c.loop-i.made i c.loop-i.k c.loop-i.met number row at holds c.loop-i.invariant.so;
     }
 
@@ -42,10 +46,13 @@ loop-i-preserved c =
     let holds : holds_all c.args.all.now c.args.context.now conditions row ≡ Ok true = search rules in
     let becomes : updated_row c.args.all.now c.args.context.now t.columns c.args.places.now rights c.loop-i.k row ≡ Ok (put.values, put.next) = search rules in
     let set : after ≡ record made { rows = with_row made.rows number new } = search rules in
+    let pushed : c.push.new.self ≡ c.loop-i.numbers ++ number ∷ [] = search rules in
     record {
+      beside = subst (λ (ns : List ℕ). RowsAgreeBeside ns t.rows after.rows) (sym pushed) (one_set c.loop-i.numbers t.rows made.rows after.rows number new (ap (λ (x : Rows). x.rows) set) c.loop-i.invariant.beside);
       few = search rules;
       met = omega (arith, c.loop-i.invariant.met);
       others = still_of t made after (with_row made.rows number new) c.loop-i.invariant.others set;
       rise = rise_so c.args.all.now c.args.context.now t conditions c.args.places.now rights c.args.first made after i c.loop-i.k c.loop-i.met number row new at c.loop-i.invariant.rise set c.loop-i.invariant.so;
+      told = omega (arith, ap (λ (ns : List ℕ). length ns) pushed ∙ push_length c.loop-i.numbers number, c.loop-i.invariant.told);
       so = set_so c.args.all.now c.args.context.now t conditions c.args.places.now rights c.args.first made after i c.loop-i.k put.next c.loop-i.met number row put.values at holds becomes c.loop-i.invariant.rise set c.loop-i.invariant.so;
     }

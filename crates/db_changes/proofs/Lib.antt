@@ -1,0 +1,9 @@
+pub mod Covering
+pub mod Deciding
+pub mod Fates
+pub mod Gathered
+pub mod Leading
+pub mod Loops
+pub mod Numbers
+pub mod RowsTouched
+pub mod Spelled

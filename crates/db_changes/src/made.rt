@@ -1,0 +1,178 @@
+// What a transaction has made of tables.
+ghost use Rattle.std.specs.Prelude.{◌≡◌, ◌++◌, ◌≤◌, IfOk, drop, length, take};
+ghost use Rattle.std.specs.Int.{to_be_bytes, w64};
+ghost use Rattle.dl_codec.specs.Rows.{rows_record};
+ghost use Rattle.dl_codec.specs.declared.rows.RowsRecord.TheVariants as records;
+ghost use Rattle.db_replay.specs.Changes.{all_at_version, at_version};
+ghost use Rattle.db_changes.specs.Handles.{handles};
+ghost use Rattle.db_changes.specs.Made.{record_of};
+ghost use Rattle.db_changes.specs.Touched.{Covers};
+
+use crate::TouchedRows;
+use crate::diff::{put_dropped, put_kept, put_new};
+use db_replay::Change;
+use dl_base::{Copied, List, Memory};
+use dl_codec::{RowsRecord, TableChange, put_rows_record};
+use sql_table::Tables;
+use std::alloc::Global;
+use std::marker::Model;
+
+/// What a transaction has made of tables, before it has a commit number: the body of its record, and handles of its tables, which
+/// share what they have with the copy. Contracts see the transaction, whether it has a branch, and the two lists of tables.
+#[derive(Drop)]
+pub struct Made {
+    tx: u64,
+    branch: bool,
+    base: Tables,
+    copy: Tables,
+    // the record as that of commit 0
+    body: List<u8>,
+    handles: List<Change>,
+    again: List<Change>,
+}
+
+impl Model for Made {
+    ghost use Rattle.db_changes.specs.Made.{Difference};
+
+    ghost Value = { Difference };
+
+    ghost view = { λ m. record { tx = m.tx; branch = m.branch; base = m.base; copy = m.copy } };
+
+    ghost use Rattle.db_changes.specs.Made.{IsMade};
+
+    ghost invariant = { λ m. IsMade (record { tx = m.tx; branch = m.branch; base = m.base; copy = m.copy }) m.body m.handles m.again };
+}
+
+impl Made {
+    /// What a transaction has made of the tables of its base: its copy, in which beside new and dropped tables only touched rows
+    /// differ. The error is want of memory. The cost grows with the number of tables, with the touched rows, times the logarithm
+    /// of the rows of their tables, and with the rows of new tables.
+    pub fn new(
+        alloc: Global,
+        tx: u64,
+        branch: bool,
+        base: &Tables,
+        copy: &Tables,
+        touched: &TouchedRows,
+    ) -> Result<Made, Memory>
+        requires covers { Covers touched.now base.now copy.now }
+        ensures { IfOk result (λ made. made ≡ record { tx = tx; branch = branch; base = base.now; copy = copy.now }) }
+    {
+        let mut changes = List::empty(alloc);
+        let mut handles = List::empty(alloc);
+        put_dropped(&mut changes, &mut handles, base, copy)?;
+        put_kept(&mut changes, &mut handles, base, copy, touched)?;
+        put_new(&mut changes, &mut handles, copy)?;
+        let body = body_of(alloc, tx, branch, changes)?;
+        let again = copies(&handles)?;
+        Ok(Made {
+            tx,
+            branch,
+            base: base.copy()?,
+            copy: copy.copy()?,
+            body,
+            handles,
+            again,
+        })
+    }
+
+    /// The transaction. It takes no memory.
+    pub fn tx(&self) -> u64
+        ensures { result ≡ self.now.tx }
+    {
+        self.tx
+    }
+
+    /// Whether the transaction has a branch. It takes no memory.
+    pub fn branch(&self) -> bool
+        ensures { result ≡ self.now.branch }
+    {
+        self.branch
+    }
+
+    /// The body of the record of this commit, and the handles of its tables with its number as version, twice: for the committed
+    /// tables, and for the log of commits. It takes no memory, and costs no row.
+    pub fn parts(self, number: u64) -> (List<u8>, List<Change>, List<Change>)
+        ensures body { result.0 ≡ rows_record.spelling (record_of self number) }
+        ensures fits { rows_record.fits (record_of self number) }
+        ensures handles { result.1 ≡ all_at_version number (handles self.base self.copy) }
+        ensures again { result.2 ≡ all_at_version number (handles self.base self.copy) }
+    {
+        let Made {
+            body,
+            handles,
+            again,
+            ..
+        } = self;
+        (
+            numbered(body, number),
+            with_version(handles, number),
+            with_version(again, number),
+        )
+    }
+}
+
+// The body of a record of commit 0.
+fn body_of(
+    alloc: Global,
+    tx: u64,
+    branch: bool,
+    changes: List<TableChange>,
+) -> Result<List<u8>, Memory>
+    ensures body { IfOk result (λ made. made ≡ rows_record.spelling (records.Commit tx 0 branch changes)) }
+    ensures fits { IfOk result (λ made. rows_record.fits (records.Commit tx 0 branch changes)) }
+{
+    let mut made = List::empty(alloc);
+    put_rows_record(&mut made, &RowsRecord::Commit(tx, 0, branch, changes))?;
+    Ok(made)
+}
+
+// The body with another number of the commit, which stands behind a byte and the transaction's eight.
+fn numbered(body: List<u8>, number: u64) -> List<u8>
+    requires { 17 ≤ length body }
+    ensures { result ≡ take 9 body ++ to_be_bytes w64 number ++ drop 17 body }
+{
+    let mut bytes = body.into_vec();
+    bytes[9..17].copy_from_slice(&number.to_be_bytes());
+    List::from_vec(bytes)
+}
+
+fn with_version(changes: List<Change>, version: u64) -> List<Change>
+    ensures { result ≡ all_at_version version changes }
+{
+    let mut items = changes.into_vec();
+    for change in items.iter_mut() {
+        set_version(change, version);
+    }
+    List::from_vec(items)
+}
+
+fn set_version(change: &mut Change, version: u64)
+    ensures { change.new ≡ at_version version change.old }
+{
+    match change {
+        Change::Dropped(_) => {}
+        Change::Kept(_, table) => table.set_version(version),
+        Change::New(_, table) => table.set_version(version),
+    }
+}
+
+fn copies(handles: &List<Change>) -> Result<List<Change>, Memory>
+    ensures { IfOk result (λ made. made ≡ handles.now) }
+{
+    let mut made = List::empty(handles.allocator());
+    for change in handles.as_slice() {
+        made.push(copy_of(change)?)?;
+    }
+    Ok(made)
+}
+
+fn copy_of(change: &Change) -> Result<Change, Memory>
+    ensures { IfOk result (λ made. made ≡ change.now) }
+{
+    match change {
+        Change::Dropped(name) => Ok(Change::Dropped(name.copy()?)),
+        Change::Kept(name, table) => Ok(Change::Kept(name.copy()?, table.copy()?)),
+        Change::New(name, table) => Ok(Change::New(name.copy()?, table.copy()?)),
+    }
+}

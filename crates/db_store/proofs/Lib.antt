@@ -1,0 +1,9 @@
+pub mod Alone
+pub mod Committing
+pub mod Folding
+pub mod HistoryLaws
+pub mod Left
+pub mod LogLaws
+pub mod Named
+pub mod Numbers
+pub mod Room

@@ -1,0 +1,40 @@
+use Rattle.std.proofs.Common.{◌≡◌, ◌∷◌, ◌++◌, [], ℕ, List, Option, true, nat_eq, sym, ap, ◌∙◌, rules}
+use Rattle.std.specs.Map.{lookup}
+use Rattle.std.specs.Option.{option_map}
+use Rattle.db_replay.specs.declared.replaying.Replayed.{Replayed}
+use Rattle.db_store.proofs.HistoryLaws.{after_all, commits_fit, new_all, none_open}
+use Rattle.db_store.proofs.LogLaws.{of_some}
+use Rattle.db_store.specs.declared.log.Entry.{Entry}
+use Rattle.db_store.proofs.history.History.commits.Goals as goal
+
+pub push-requires-clause-new : goal.push-requires-clause-new
+push-requires-clause-new c =
+    let next : c.is_next.result ≡ true = search rules in
+    ap (λ (l : List (ℕ × Entry)). lookup (λ k. nat_eq c.args.tx k) l) c.make_room.ensures.entries
+    ∙ none_open c.args.self.now c.args.tx c.args.number c.self.inside.opening c.self.inside.log.entries c.self.inside.ended.keys c.self.view_is (sym c.is_next.ensures ∙ next)
+
+pub invariant_of-self-in-Some : goal.invariant_of-self-in-Some
+invariant_of-self-in-Some c =
+    let r = c.in-Some.replayed in
+    let e : Entry = record { branch = c.args.branch; changes = r.changes } in
+    let es = c.self.inside.log.entries in
+    let grown : c.push.new.self.entries ≡ es ++ (c.args.tx, e) ∷ [] = c.push.ensures.entries ∙ ap (λ (l : List (ℕ × Entry)). l ++ (c.args.tx, e) ∷ []) c.make_room.ensures.entries in
+    let of = c.in_ok-replayed.ensures in
+    let leads = of_some _ c.in_ok-replayed.field-0 r c.in-Some.is of.handles in (
+      after_all es c.push.new.self.entries c.args.tx e c.self.inside.tables r.tables grown c.self.invariant.0 leads,
+      new_all es c.push.new.self.entries c.args.tx e c.self.inside.tables grown c.self.invariant.0 c.self.invariant.1 (of_some _ c.in_ok-replayed.field-0 r c.in-Some.is of.new),
+      of_some _ c.in_ok-replayed.field-0 r c.in-Some.is of.fit,
+      of_some _ c.in_ok-replayed.field-0 r c.in-Some.is of.columns,
+    )
+
+pub returns-in-Some : goal.returns-in-Some
+returns-in-Some c =
+    let r = c.in-Some.replayed in
+    let e : Entry = record { branch = c.args.branch; changes = r.changes } in
+    let es = c.self.inside.log.entries in
+    let grown : c.push.new.self.entries ≡ es ++ (c.args.tx, e) ∷ [] = c.push.ensures.entries ∙ ap (λ (l : List (ℕ × Entry)). l ++ (c.args.tx, e) ∷ []) c.make_room.ensures.entries in
+    let next : c.is_next.result ≡ true = search rules in
+    commits_fit c.args.self.now c.args.tx c.args.number c.args.branch c.args.changes.now c.self.inside.opening es c.self.inside.ended.keys c.self.view_is c.self.inside.tables c.self.invariant.0
+    r.tables r.changes c.push.new.self.entries (sym c.is_next.ensures ∙ next)
+    (sym (ap (λ (o : Option Replayed). option_map (λ x. x.tables) o) c.in-Some.is) ∙ c.in_ok-replayed.ensures.exact)
+    (of_some _ c.in_ok-replayed.field-0 r c.in-Some.is c.in_ok-replayed.ensures.handles) grown

@@ -1,0 +1,51 @@
+-- Commits as they are kept: what each made of the tables before it.
+use Rattle.std.specs.Prelude.{ℕ, zero, suc, ◌&&◌, Bool, true, false, IsTrue, List, [], ◌∷◌, Option, Some, None, slice_get}
+use Rattle.db_replay.specs.Applying.{are_new}
+use Rattle.db_replay.specs.Changes.{applied}
+use Rattle.db_store.specs.declared.log.Entry.{Entry}
+use Rattle.meaning_areas.specs.Commits.{Commit}
+use Rattle.meaning_tables.specs.Links.{gives, takes}
+use Rattle.meaning_tables.specs.Tables.{Tables}
+
+-- the commits by transaction number, in order, and for how many more there is room
+pub record Log : Type 0 where
+  pub entries : List (ℕ × Entry)
+  pub spare : ℕ
+
+-- a commit that leads from some tables to others
+abbrev pub commit_between : Tables → ℕ → Bool → Tables → Commit
+commit_between before tx branch tables = record {
+  tx = tx;
+  branch = branch;
+  gives = gives before tables;
+  takes = takes before tables;
+  tables = tables;
+}
+
+-- what they stand for: each leads from the tables before it to those after its changes
+abbrev pub commits_from : Tables → List (ℕ × Entry) → List Commit
+commits_from before [] = []
+commits_from before (e ∷ es) = commit_between before e.0 e.1.branch (applied before e.1.changes) ∷ commits_from (applied before e.1.changes) es
+
+-- each new table of theirs has a name that no table has when its turn comes
+abbrev pub all_new : Tables → List (ℕ × Entry) → Bool
+all_new before [] = true
+all_new before (e ∷ es) = are_new before e.1.changes && all_new (applied before e.1.changes) es
+
+abbrev pub AllNew : List (ℕ × Entry) → Type 0
+AllNew es = IsTrue (all_new [] es)
+
+-- the tables behind the first of some commits
+abbrev pub after_first : Tables → List (ℕ × Entry) → Tables
+after_first before [] = before
+after_first before (e ∷ es) = applied before e.1.changes
+
+-- whether there is a commit, and it has a branch
+abbrev pub has_branch : Option Commit → Bool
+has_branch None = false
+has_branch (Some c) = c.branch
+
+-- the commit of a number, from 1
+abbrev pub commit_numbered : List Commit → ℕ → Option Commit
+commit_numbered cs zero = None
+commit_numbered cs (suc n) = slice_get cs n

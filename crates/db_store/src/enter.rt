@@ -1,0 +1,67 @@
+// One more commit in memory: in the log, and in tables with room for more.
+ghost use Rattle.std.specs.Prelude.{◌≡◌, ◌+◌, ◌/◌, ◌<◌, ◌≤◌, ◌++◌, ◌∷◌, [], IsTrue, None, min};
+ghost use Rattle.db_replay.specs.Applying.{AreNew, is_new, new_by, new_in};
+ghost use Rattle.db_replay.specs.Changes.{apply, applied};
+ghost use Rattle.db_store.specs.Log.{AllNew, commits_from};
+ghost use Rattle.meaning_areas.specs.Commits.{commit_of, commit_to, tables_after};
+
+use crate::log::{Entry, Log};
+use db_replay::Change;
+use dl_base::List;
+use sql_table::RoomyTables;
+
+/// Puts a commit at the end of the log, and what it made into the tables, where there is room for a commit of at most 256 new
+/// tables. It takes no memory.
+pub fn enter(
+    tables: &mut RoomyTables,
+    log: &mut Log,
+    tx: u64,
+    branch: bool,
+    changes: List<Change>,
+    again: List<Change>,
+)
+    requires again { again ≡ changes }
+    requires at { tables.old.tables ≡ tables_after [] (commits_from [] log.old.entries) }
+    requires all { AllNew log.old.entries }
+    requires new { AreNew tables.old.tables changes }
+    requires none { commit_of tx (commits_from [] log.old.entries) ≡ None }
+    requires few { new_in changes ≤ 256 }
+    requires room { 0 < min log.old.spare (tables.old.spare / 256) }
+    ensures commits { commits_from [] log.new.entries ≡ commits_from [] log.old.entries ++ commit_to (commits_from [] log.old.entries) tx branch (applied tables.old.tables changes) ∷ [] }
+    ensures at { tables.new.tables ≡ tables_after [] (commits_from [] log.new.entries) }
+    ensures all { AllNew log.new.entries }
+    ensures spare { min log.old.spare (tables.old.spare / 256) ≤ min log.new.spare (tables.new.spare / 256) + 1 }
+{
+    apply_all(tables, changes);
+    let entry = Entry {
+        branch,
+        changes: again,
+    };
+    log.push(tx, entry);
+}
+
+// Does changes, for whose new tables there is room.
+fn apply_all(tables: &mut RoomyTables, changes: List<Change>)
+    requires new { AreNew tables.old.tables changes }
+    requires room { new_in changes ≤ tables.old.spare }
+    ensures tables { tables.new.tables ≡ applied tables.old.tables changes }
+    ensures spare { tables.old.spare ≤ tables.new.spare + new_in changes }
+{
+    for change in changes.into_vec() {
+        apply_one(tables, change);
+    }
+}
+
+#[tactic(auto, using(crate::proofs::LogLaws::none_there))]
+fn apply_one(tables: &mut RoomyTables, change: Change)
+    requires new { IsTrue (is_new tables.old.tables change) }
+    requires room { new_by change ≤ tables.old.spare }
+    ensures tables { tables.new.tables ≡ apply tables.old.tables change }
+    ensures spare { tables.old.spare ≤ tables.new.spare + new_by change }
+{
+    match change {
+        Change::Dropped(name) => tables.discard(&name),
+        Change::Kept(name, table) => tables.put(&name, table),
+        Change::New(name, table) => tables.add(name, table),
+    }
+}

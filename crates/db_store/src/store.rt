@@ -1,0 +1,258 @@
+// The commits that are open on a bench.
+ghost use Rattle.std.specs.Prelude.{◌≡◌, ◌==◌, ◌+◌, ◌≤◌, ◌^◌, ◌∷◌, [], ℕ, List, filter, Some, Ok, Err, IfOk, OnOk, OnErr, is_some, length};
+ghost use Rattle.std.specs.Option.{option_map};
+ghost use Rattle.std.specs.Result.{result_err};
+ghost use Rattle.dl_areas.specs.Opening.{IsOpened, OpensOne};
+ghost use Rattle.dl_areas.specs.Writing.{DoesAlone};
+ghost use Rattle.dl_base.specs.Outside.{Rose};
+ghost use Rattle.dl_base.specs.declared.area.Area.TheVariants as areas;
+ghost use Rattle.dl_base.specs.declared.fault.AppendFault.TheVariants as appends;
+ghost use Rattle.dl_codec.specs.Rows.{rows_record};
+ghost use Rattle.dl_codec.specs.declared.rows.RowsRecord.TheVariants as records;
+ghost use Rattle.dl_journal.specs.Open.{IsOpen, IsUnwritten};
+ghost use Rattle.meaning_areas.specs.Areas.{rows_of};
+ghost use Rattle.meaning_areas.specs.Commits.{commit_of, tables_after};
+ghost use Rattle.meaning_areas.specs.Stands.{past};
+ghost use Rattle.db_store.specs.Log.{AllNew, commit_numbered};
+ghost use Rattle.meaning_merge.specs.Merging.{AreNamed};
+ghost use Rattle.db_store.specs.Store.{IsTaken, commit_write, committed_with, draw_full, drawn_next, extent, opening_write, reopened, rows_in};
+
+use crate::apply::past_tables;
+use crate::enter::enter;
+use crate::fold::fold;
+use crate::history::History;
+use crate::log::Log;
+use crate::write::write;
+use db_changes::{Made, handles_lead_to_merged_tables};
+use dl_areas::an_append_writes_one_record;
+use dl_base::{AppendFault, Area, BeginFault, Bench, Full, Memory};
+use dl_journal::Journal;
+use indexmap::IndexSet;
+use sql_table::{RoomyTables, Tables};
+use std::alloc::Global;
+use std::marker::Model;
+
+// The greatest number of an opening, and of a transaction inside one.
+const MOST_NUMBERS: u32 = 4_294_967_294;
+
+// The most new tables of a commit that has room.
+const NEW_TABLES: usize = 256;
+
+/// The commits of the database, in memory and in the area Rows. Contracts see what the records of the area stand for, how many
+/// transaction numbers were drawn since the opening, for how many more commits there is room, how many bytes the area's records and
+/// closing gate are, and how many they may be.
+#[derive(Drop)]
+pub struct Store {
+    alloc: Global,
+    journal: Journal,
+    tables: RoomyTables,
+    log: Log,
+    opening: u32,
+    ended: IndexSet<u64>,
+    drawn: u32,
+}
+
+impl Model for Store {
+    ghost use Rattle.std.specs.Prelude.{◌≡◌, ◌/◌, [], min};
+    ghost use Rattle.dl_base.specs.declared.area.Area.TheVariants as areas;
+    ghost use Rattle.db_store.specs.Log.{AllNew, commits_from};
+    ghost use Rattle.db_store.specs.Store.{Database};
+    ghost use Rattle.meaning_areas.specs.Commits.{tables_after};
+
+    ghost Value = { Database };
+
+    ghost view = { λ s. record {
+      rows = record { opening = s.opening; commits = commits_from [] s.log.entries; ended = s.ended.keys };
+      drawn = s.drawn;
+      spare = min s.log.spare (s.tables.spare / 256);
+      length = s.journal.length;
+      limit = s.journal.limit;
+    } };
+
+    ghost invariant = { λ s. (s.journal.area ≡ areas.Rows) × (s.tables.tables ≡ tables_after [] (commits_from [] s.log.entries)) × AllNew s.log.entries };
+}
+
+impl Store {
+    /// Opens the area Rows. The limit is the most bytes that its records and closing gate may be.
+    /// `NotAJournal` has the place, from 0, of the gate of the first record that passes the area's end; where there is none, that of
+    /// the first record that is none, or that the fold refuses: an opening or a commit that is not the next one, a second commit of
+    /// a transaction or one of another opening, changes that do not apply or lead to tables that do not fit, an end of a branch that
+    /// is none or has ended.
+    pub fn begin<B: Bench>(alloc: Global, bench: &mut B, limit: u64) -> Result<Store, BeginFault>
+        requires low { 1 ≤ limit }
+        requires high { limit ≤ 2 ^ 63 }
+
+        // The commits are those that the area's list stands for, and that each crash leaves.
+        ensures opened { IfOk result (λ s. (bodies : List (List ℕ)) × IsOpened areas.Rows limit (extent s) bodies (B.outside bench.old) (B.outside bench.new) × (rows_of bodies ≡ Ok s.rows)) }
+        ensures drawn { IfOk result (λ s. s.drawn ≡ 0) }
+
+        // However it ends, the area reads as the list that it was, and a crash leaves an image of before or that list.
+        ensures opens { OpensOne areas.Rows (B.outside bench.old) (B.outside bench.new) }
+
+        ensures no_rows { (place : ℕ) → result ≡ Err (BeginFault.NotAJournal place) → (told : List ℕ) → (B.outside bench.old).reads areas.Rows ≡ Some told → rows_in told ≡ Err place }
+        ensures untouched { (place : ℕ) → result ≡ Err (BeginFault.NotAJournal place) → IsUnwritten areas.Rows (B.outside bench.old) (B.outside bench.new) }
+        ensures device { result ≡ Err BeginFault.Device → Rose (B.outside bench.old) (B.outside bench.new) }
+    {
+        let (journal, bodies) = Journal::begin(alloc, bench, Area::Rows, limit)?;
+        let history = fold(alloc, &bodies)?;
+        Ok(opened(alloc, journal, history))
+    }
+
+    /// Writes the next opening, from which on transaction numbers begin again: once after `begin`, before the first `draw`. The
+    /// errors are `Full(Openings)` with the last opening's number, `Full(Area)` where the area has no room for the record, and
+    /// `Device`, after which the area is to be opened again. It takes no memory.
+    pub fn announce<B: Bench>(&mut self, bench: &mut B) -> Result<(), AppendFault>
+        requires { IsOpen (extent self.old) (B.outside bench.old) }
+        ensures ok { OnOk result (self.new ≡ reopened self.old self.new.length) }
+        ensures err { OnErr result (self.new ≡ self.old) }
+        ensures does { DoesAlone (extent self.old) (extent self.new) (opening_write self.old.rows ∷ []) (result_err result) (B.outside bench.old) (B.outside bench.new) }
+    {
+        an_append_writes_one_record::<B>();
+        if self.opening >= MOST_NUMBERS {
+            return Err(AppendFault::Full(Full::Openings(self.opening)));
+        }
+        let next = self.opening + 1;
+        match write(&mut self.journal, bench, &opening_body(next)) {
+            Ok(()) => {
+                self.opening = next;
+                self.drawn = 0;
+                Ok(())
+            }
+            Err(fault) => Err(fault),
+        }
+    }
+
+    /// The tables after the last commit; none before the first. It takes no memory.
+    pub fn committed(&self) -> &RoomyTables
+        ensures { result.now.tables ≡ tables_after [] self.now.rows.commits }
+    {
+        &self.tables
+    }
+
+    /// The tables after a commit, none after commit 0; None exactly where there is no such commit. They share what they have with
+    /// other tables; the cost grows with the number of changes of the commits up to it, and with that of the tables. The error is
+    /// want of memory, and changes nothing.
+    pub fn past(&self, commit: u64) -> Result<Option<Tables>, Memory>
+        ensures { IfOk result (λ tables. tables ≡ past [] self.now.rows.commits commit) }
+    {
+        past_tables(self.alloc, &self.log, commit)
+    }
+
+    /// How many commits there are.
+    pub fn commits(&self) -> u64
+        ensures { result ≡ length self.now.rows.commits }
+    {
+        self.log.len() as u64
+    }
+
+    /// The transaction of a commit, from 1, and whether that has a branch; None exactly where there is no such commit. It takes no
+    /// memory.
+    pub fn commit_at(&self, commit: u64) -> Option<(u64, bool)>
+        ensures { result ≡ option_map (λ c. (c.tx, c.branch)) (commit_numbered self.now.rows.commits commit) }
+    {
+        self.log.commit_at(commit)
+    }
+
+    /// The number of the last opening; 0 where there was none.
+    pub fn opening(&self) -> u32
+        ensures { result ≡ self.now.rows.opening }
+    {
+        self.opening
+    }
+
+    /// Whether a transaction has a commit. It takes no memory.
+    pub fn decided(&self, tx: u64) -> bool
+        ensures { result ≡ is_some (commit_of tx self.now.rows.commits) }
+    {
+        self.log.has(tx)
+    }
+
+    /// The next transaction number: the opening's 32 bits, and behind them how many were drawn in it. The only error is that an
+    /// opening has no more. It takes no memory.
+    #[tactic(auto, using(crate::proofs::Numbers::draw_fits, crate::proofs::Numbers::draw_ends))]
+    pub fn draw(&mut self) -> Result<u64, AppendFault>
+        ensures value { IfOk result (λ tx. tx ≡ drawn_next self.old) }
+        ensures ok { OnOk result (self.new ≡ record self.old { drawn = self.old.drawn + 1 }) }
+        ensures err { OnErr result (self.new ≡ self.old) }
+        ensures full { result_err result ≡ option_map (λ f. appends.Full f) (draw_full (self.old.drawn + 1)) }
+    {
+        if self.drawn >= MOST_NUMBERS {
+            return Err(AppendFault::Full(Full::Transactions(self.drawn)));
+        }
+        self.drawn += 1;
+        Ok(u64::from(self.opening) * 4_294_967_296 + u64::from(self.drawn))
+    }
+
+    /// Writes the commit of what a transaction has made, and returns its number, from 1. There has to be room for it, it has at most
+    /// 256 new tables, and its record leads from the committed tables to the merged ones. The errors are `Full(Area)` where the area
+    /// has no room for the record, and `Device`, after which the area is to be opened again. It takes no memory, and costs its
+    /// touched rows as bytes, and its tables.
+    pub fn commit<B: Bench>(&mut self, bench: &mut B, made: Made) -> Result<u64, AppendFault>
+        requires ready { IsOpen (extent self.old) (B.outside bench.old) }
+        requires room { 1 ≤ self.old.spare }
+        requires few { length (filter (λ t. t.1.version == 0) made.copy) ≤ 256 }
+        requires named { AreNamed made.base }
+        requires taken { IsTaken self.old.rows made }
+        ensures value { IfOk result (λ number. number ≡ length self.old.rows.commits + 1) }
+        ensures rows { OnOk result (self.new.rows ≡ committed_with self.old.rows made) }
+        ensures spare { OnOk result (self.old.spare ≤ self.new.spare + 1) }
+        ensures same { OnOk result ((self.new.drawn ≡ self.old.drawn) × (self.new.limit ≡ self.old.limit)) }
+        ensures err { OnErr result (self.new ≡ self.old) }
+        ensures does { DoesAlone (extent self.old) (extent self.new) (commit_write self.old.rows made ∷ []) (result_err result) (B.outside bench.old) (B.outside bench.new) }
+    {
+        handles_lead_to_merged_tables();
+        let tx = made.tx();
+        let branch = made.branch();
+        let number = self.log.len() as u64 + 1;
+        let (body, changes, again) = made.parts(number);
+        match write(&mut self.journal, bench, body.as_slice()) {
+            Ok(()) => {
+                enter(&mut self.tables, &mut self.log, tx, branch, changes, again);
+                Ok(number)
+            }
+            Err(fault) => Err(fault),
+        }
+    }
+
+    /// Makes room for so many more commits, of at most 256 new tables each; want of memory leaves what room there was.
+    #[tactic(auto, using(crate::proofs::Room::room_for, crate::proofs::Room::more_room))]
+    pub fn make_room(&mut self, commits: u64) -> Result<(), Memory>
+        ensures same { self.new ≡ record self.old { spare = self.new.spare } }
+        ensures room { OnOk result (commits ≤ self.new.spare) }
+        ensures spare { self.old.spare ≤ self.new.spare }
+    {
+        if commits > 4_294_967_296 {
+            return Err(Memory);
+        }
+        let count = commits as usize;
+        self.log.make_room(count)?;
+        self.tables.make_room(count * NEW_TABLES)
+    }
+}
+
+// A store of what the records stand for.
+fn opened(alloc: Global, journal: Journal, history: History) -> Store
+    requires { journal.area ≡ areas.Rows }
+    ensures rows { result.rows ≡ history }
+    ensures drawn { result.drawn ≡ 0 }
+    ensures extent { extent result ≡ journal }
+{
+    let (tables, log, opening, ended) = history.into_parts();
+    Store {
+        alloc,
+        journal,
+        tables: RoomyTables::of(tables),
+        log,
+        opening,
+        ended,
+        drawn: 0,
+    }
+}
+
+// The body of an opening's record.
+fn opening_body(number: u32) -> [u8; 5]
+    ensures { result ≡ rows_record.spelling (records.Opening number) }
+{
+    let bytes = number.to_be_bytes();
+    [1, bytes[0], bytes[1], bytes[2], bytes[3]]
+}

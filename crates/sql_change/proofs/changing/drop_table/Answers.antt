@@ -1,0 +1,11 @@
+use Rattle.std.proofs.Common.{◌≡◌, [], sym, subst, rules}
+use Rattle.meaning_tables.specs.Tables.{Tables, without_table}
+use Rattle.sql_rows.specs.Beside.{AgreeBeside}
+use Rattle.sql_change.proofs.Touched.{dropped_beside}
+use Rattle.sql_change.proofs.changing.drop_table.Goals as goal
+
+pub returns-clause-beside : goal.returns-clause-beside
+returns-clause-beside c =
+    let tables = c.args.tables.now in
+    let dropped : c.discard.new.self ≡ without_table tables c.args.name.now = search rules in
+    subst (λ (after : Tables). AgreeBeside [] tables after) (sym dropped) (dropped_beside tables c.args.name.now c.distinct.ensures)

@@ -1,0 +1,6 @@
+pub mod Walking
+pub mod Reach
+pub mod Early
+pub mod Passed
+pub mod Keeping
+pub mod Apart
