@@ -1,6 +1,6 @@
 -- An end whose causes are all ruled out.
 use Rattle.std.proofs.Common.{◌≡◌, ◌≤◌, ℕ, List, length, refl, ap, ◌∙◌, Option, Some, Ok, arith}
-use Rattle.dl_base.specs.Outside.{Outside, Rose}
+use Rattle.dl_base.specs.Outside.{Outside, FaultCounted}
 use Rattle.dl_base.specs.Sources.{RoseFrom}
 use Rattle.dl_base.specs.declared.area.Area.{Area}
 use Rattle.dl_base.specs.declared.fault.Full.{Full}
@@ -22,7 +22,7 @@ entry_stands o n bodies files area place entry none =
     let stands : files_in entry.bytes ≡ Ok files = ap files_of_list entry.list ∙ entry.stands in
     cc (stands, none.bad entry.bytes entry.reads)
 
-pub run_done : (end : Status) (turns : List Turn) (limit : ℕ) (bodies : List (List ℕ)) (files : Files) (o n : Outside) → IsRunEnd end → (end ≡ status.Device → Rose o n)
+pub run_done : (end : Status) (turns : List Turn) (limit : ℕ) (bodies : List (List ℕ)) (files : Files) (o n : Outside) → IsRunEnd end → (end ≡ status.Device → FaultCounted o n)
     → ((area : Area) (place : ℕ) → end ≡ status.NotAStore area place → IsNoStore area place o n)
     → ((full : Full) → end ≡ status.Full full → IsFullAt turns bodies files limit full)
     → IsEntry o bodies files → HasRoom turns limit bodies files o n → IsDone end

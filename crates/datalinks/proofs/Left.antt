@@ -1,7 +1,7 @@
 -- What the area Files reads when a run has ended.
 use Rattle.std.proofs.Common.{◌≡◌, ⊎_elim, ℕ, List, [], refl, sym, ap, subst, ◌∙◌, Option, Some, Ok, arith}
 use Rattle.std.proofs.lemmas.List.{append-nil}
-use Rattle.dl_base.specs.Outside.{Outside, Pair, Now, Moments, IsLawful}
+use Rattle.dl_base.specs.Outside.{Outside, CrashState, Now, AtEveryMoment, IsLawful}
 use Rattle.dl_base.specs.declared.area.Area.TheVariants as areas
 use Rattle.dl_journal.proofs.Records.{records-at_rest}
 use Rattle.dl_journal.specs.Open.{ReadsSameList}
@@ -15,7 +15,7 @@ use Rattle.datalinks.specs.Run.{IsEntry, IsSeen, IsAfterSteps}
 
 module _ (turns : List Turn) (o : Outside) (bodies : List (List ℕ)) (files : Files) (entry : IsEntry o bodies files) where
   -- no step is done
-  pub left_none : (p : Pair) → records (p.areas areas.Files) ≡ Ok bodies → o.told ≡ Some p.told → IsAfterSteps turns bodies files o.told p
+  pub left_none : (p : CrashState) → records (p.areas areas.Files) ≡ Ok bodies → o.told ≡ Some p.told → IsAfterSteps turns bodies files o.told p
   left_none p list told = record {
     count = 0;
     some = omega arith;
@@ -28,16 +28,16 @@ module _ (turns : List Turn) (o : Outside) (bodies : List (List ℕ)) (files : F
   }
 
   -- nothing was touched
-  pub left_alone : (p : Pair) → IsSeen o p → IsAfterSteps turns bodies files o.told p
+  pub left_alone : (p : CrashState) → IsSeen o p → IsAfterSteps turns bodies files o.told p
   left_alone p seen = left_none p (let a = entry.reads in let b = seen.areas areas.Files in let c = entry.list in cc) seen.told
 
   -- the opening failed
-  pub left_opening : (m : Outside) → ReadsSameList (o.reads areas.Files) (m.reads areas.Files) → m.told ≡ o.told → (p : Pair) → IsSeen m p → IsAfterSteps turns bodies files o.told p
+  pub left_opening : (m : Outside) → ReadsSameList (o.reads areas.Files) (m.reads areas.Files) → m.told ≡ o.told → (p : CrashState) → IsSeen m p → IsAfterSteps turns bodies files o.told p
   left_opening m same told p seen = left_none p (same entry.bytes (p.areas areas.Files) entry.reads (seen.areas areas.Files) ∙ entry.list) (sym told ∙ seen.told)
 
   -- the lines were done, or some of them
   pub left_lines : (store : Catalog) (m n : Outside) → IsLawful m → IsLawful n → m.told ≡ o.told → store.files ≡ files → Holds store bodies m
-      → Moments (IsAfterSteps turns bodies store.files m.told) m n → (p : Pair) → IsSeen n p → IsAfterSteps turns bodies files o.told p
+      → AtEveryMoment (IsAfterSteps turns bodies store.files m.told) m n → (p : CrashState) → IsSeen n p → IsAfterSteps turns bodies files o.told p
   left_lines store m n before after told same held moments p seen =
       let now : Now n p = record { told = seen.told; areas = λ a. after.as_it_reads a (p.areas a) (seen.areas a) } in
       ⊎_elim

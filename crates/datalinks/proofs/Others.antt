@@ -1,7 +1,7 @@
 -- No area but Files is touched, call after call.
 use Rattle.std.proofs.Common.{ℕ, List, refl, ◌∙◌}
 use Rattle.dl_base.proofs.Moments.{moments_none, moments_then, moments_more, moments_touch, moments_say}
-use Rattle.dl_base.specs.Outside.{Outside, Pair, During, Touches, Says}
+use Rattle.dl_base.specs.Outside.{Outside, CrashState, During, ChangesOnly, Says}
 use Rattle.dl_base.specs.declared.area.Area.TheVariants as areas
 use Rattle.datalinks.specs.Lines.{OthersWere, OthersStand}
 
@@ -15,7 +15,7 @@ others_then o m n first second = record {
   moments = moments_then (OthersWere o) o m n first.moments (moments_more (OthersWere m) (OthersWere o) m n (λ p were a other. first.images a other (p.areas a) (were a other)) second.moments);
 }
 
-pub others_touch : (Q : List ℕ → Type 0) (o n : Outside) → Touches areas.Files Q o n → OthersStand o n
+pub others_touch : (Q : List ℕ → Type 0) (o n : Outside) → ChangesOnly areas.Files Q o n → OthersStand o n
 others_touch Q o n t = record {
   reads = t.others_read;
   images = t.others;

@@ -1,7 +1,7 @@
 -- The lines that are left, as what they lead to.
 use Rattle.std.proofs.Common.{◌≡◌, ℕ, ◌+◌, List, [], ◌∷◌, refl, sym, subst, Result, Ok, Err}
 use Rattle.std.specs.Result.{OnOk}
-use Rattle.dl_base.specs.Outside.{Outside, Moments}
+use Rattle.dl_base.specs.Outside.{Outside, AtEveryMoment}
 use Rattle.dl_base.specs.declared.fault.Full.{Full}
 use Rattle.fs_files.specs.Store.{Catalog, Holds}
 use Rattle.meaning_machine.specs.Turns.{Sessions, IsTurn, AreTurns}
@@ -59,8 +59,8 @@ module _ (given : Settings) (sessions : Sessions) (rest : List (List ℕ)) (turn
   }
 
   -- each moment of the line is one after some steps
-  pub left_moments : (n : Outside) → ((turn : Turn) (later : Sessions) → IsTurn given sessions line turn later → (held : List (List ℕ)) → Holds now held m → Moments (IsInLine number turn held now.files m) m n)
-      → Moments (IsAfterSteps turns bodies first.files o.told) m n
+  pub left_moments : (n : Outside) → ((turn : Turn) (later : Sessions) → IsTurn given sessions line turn later → (held : List (List ℕ)) → Holds now held m → AtEveryMoment (IsInLine number turn held now.files m) m n)
+      → AtEveryMoment (IsAfterSteps turns bodies first.files o.told) m n
   left_moments n moments = moments_next turns bodies first o now here.turn here.more number m reached_here n (moments here.turn here.later here.first _ reached_here.holds)
 
   -- a line whose record would pass the limit

@@ -4,7 +4,7 @@ use Rattle.std.proofs.lemmas.List.{append-nil, take-append-drop, take_at}
 use Rattle.std.proofs.lemmas.Bool.{cases_lt}
 use Rattle.std.proofs.lemmas.Option.{slice_get-get_or}
 use Rattle.std.proofs.Math.Seq.{get_or-append_seam}
-use Rattle.dl_base.specs.Outside.{Outside, Pair, TellsFront, extended}
+use Rattle.dl_base.specs.Outside.{Outside, CrashState, TellsFront, extended}
 use Rattle.dl_base.specs.declared.area.Area.TheVariants as areas
 use Rattle.dl_base.specs.declared.fault.Full.{Full}
 use Rattle.dl_base.specs.declared.fault.Full.TheVariants as fulls
@@ -18,7 +18,7 @@ use Rattle.meaning_files.specs.Files.{Files}
 use Rattle.meaning_script.specs.Steps.{steps, files_after, text}
 use Rattle.meaning_script.specs.declared.turn.Turn.{Turn}
 use Rattle.datalinks.specs.Lines.{IsInStep, IsTelling, IsFullStep}
-use Rattle.datalinks.specs.Run.{first_steps, script_text, IsFront, IsAfterSteps, IsFullAt, length_with}
+use Rattle.datalinks.specs.Run.{first_steps, script_text, IsPrefix, IsAfterSteps, IsFullAt, length_with}
 
 -- ---- lists of steps
 
@@ -58,7 +58,7 @@ pub record Reached (turns : List Turn) (bodies : List (List ℕ)) (first : Catal
   pub holds : Holds now (bodies ++ written first.files (first_steps count turns)) m
   pub told : m.told ≡ extended said o.told
   pub texts : (k : ℕ) → script_text (count + k) first.files turns ≡ said ++ text number k now.files rest
-  pub behind : 0 < count → IsFront (script_text (count - 1) first.files turns) said
+  pub behind : 0 < count → IsPrefix (script_text (count - 1) first.files turns) said
   pub room : (full : Full) (f : IsFullAt turns bodies first.files first.limit full) → f.count < count → ⊥
 
 pub extended-none : (o : Option (List ℕ)) → o ≡ extended [] o
@@ -69,7 +69,7 @@ extended-append : (a b : List ℕ) (o : Option (List ℕ)) → extended b (exten
 extended-append a b None = refl
 extended-append a b (Some told) = ap (λ (l : List ℕ). Some l) (append_assoc told a b)
 
-front_more : (front text more : List ℕ) → IsFront front text → IsFront front (text ++ more)
+front_more : (front text more : List ℕ) → IsPrefix front text → IsPrefix front (text ++ more)
 front_more front text more is = (is.0 ++ more, ap (λ (l : List ℕ). l ++ more) is.1 ∙ append_assoc front is.0 more)
 
 -- at the first line
@@ -119,9 +119,9 @@ module _ (turns : List Turn) (bodies : List (List ℕ)) (first : Catalog) (o : O
         ∙ ap (λ (l : List FileCmd). bodies ++ written first.files l) (sym first_next)
 
   -- a crash when so many steps are done
-  after_steps : (count : ℕ) (said : List ℕ) (p : Pair) → count ≤ length (steps turns)
+  after_steps : (count : ℕ) (said : List ℕ) (p : CrashState) → count ≤ length (steps turns)
       → Stands (bodies ++ written first.files (first_steps count turns)) (files_after first.files (first_steps count turns)) (p.areas areas.Files)
-      → extended said o.told ≡ Some p.told → IsFront said (script_text count first.files turns) → (0 < count → IsFront (script_text (count - 1) first.files turns) said)
+      → extended said o.told ≡ Some p.told → IsPrefix said (script_text count first.files turns) → (0 < count → IsPrefix (script_text (count - 1) first.files turns) said)
       → IsAfterSteps turns bodies first.files o.told p
   after_steps count said p some stands told ahead behind = record {
     count = count;
@@ -137,7 +137,7 @@ module _ (turns : List Turn) (bodies : List (List ℕ)) (first : Catalog) (o : O
   -- ---- one more line
 
   -- so far, at a moment at which nothing more is told
-  still : (p : Pair) → Stands so_far now.files (p.areas areas.Files) → m.told ≡ Some p.told → IsAfterSteps turns bodies first.files o.told p
+  still : (p : CrashState) → Stands so_far now.files (p.areas areas.Files) → m.told ≡ Some p.told → IsAfterSteps turns bodies first.files o.told p
   still p stands told =
       after_steps r.count r.said p (omega (arith, enough))
       (subst (λ (f : Files). Stands (bodies ++ written first.files (first_steps r.count turns)) f (p.areas areas.Files)) r.files stands)
@@ -146,12 +146,12 @@ module _ (turns : List Turn) (bodies : List (List ℕ)) (first : Catalog) (o : O
       r.behind
 
   -- what is told of a line, so far as it is told
-  said_more : (told : List ℕ) (p : Pair) (front : TellsFront told m.told p.told) → extended (r.said ++ take front.0 told) o.told ≡ Some p.told
+  said_more : (told : List ℕ) (p : CrashState) (front : TellsFront told m.told p.told) → extended (r.said ++ take front.0 told) o.told ≡ Some p.told
   said_more told p front =
       sym (extended-append r.said (take front.0 told) o.told) ∙ ap (λ (x : Option (List ℕ)). extended (take front.0 told) x) (sym r.told ∙ front.2)
       ∙ ap (λ (l : List ℕ). Some l) (sym front.3)
 
-  front_of : (n : ℕ) (told more whole : List ℕ) → whole ≡ r.said ++ (told ++ more) → IsFront (r.said ++ take n told) whole
+  front_of : (n : ℕ) (told more whole : List ℕ) → whole ≡ r.said ++ (told ++ more) → IsPrefix (r.said ++ take n told) whole
   front_of n told more whole is = (
     drop n told ++ more,
     is ∙ ap (λ (l : List ℕ). r.said ++ (l ++ more)) (sym (take-append-drop n told))
@@ -178,7 +178,7 @@ module _ (turns : List Turn) (bodies : List (List ℕ)) (first : Catalog) (o : O
       room = r.room;
     }
 
-    pub during_without : (p : Pair) → IsInStep so_far [] now.files now.files m p ⊎ IsTelling (so_far ++ []) now.files told m p → IsAfterSteps turns bodies first.files o.told p
+    pub during_without : (p : CrashState) → IsInStep so_far [] now.files now.files m p ⊎ IsTelling (so_far ++ []) now.files told m p → IsAfterSteps turns bodies first.files o.told p
     during_without p moment = ⊎_elim
         (λ (s : IsInStep so_far [] now.files now.files m p). still p
         (⊎_elim (λ old. old) (λ new. subst (λ (l : List (List ℕ)). Stands l now.files (p.areas areas.Files)) (append-nil so_far) new) s.area) s.told)
@@ -249,7 +249,7 @@ module _ (turns : List Turn) (bodies : List (List ℕ)) (first : Catalog) (o : O
       room = room_next limit free;
     }
 
-    pub during_with : (p : Pair) → IsInStep so_far (writes now.files c) now.files (file_command now.files c).1 m p ⊎ IsTelling (so_far ++ writes now.files c) (file_command now.files c).1 told m p
+    pub during_with : (p : CrashState) → IsInStep so_far (writes now.files c) now.files (file_command now.files c).1 m p ⊎ IsTelling (so_far ++ writes now.files c) (file_command now.files c).1 told m p
         → IsAfterSteps turns bodies first.files o.told p
     during_with p moment = ⊎_elim
         (λ (s : IsInStep so_far (writes now.files c) now.files (file_command now.files c).1 m p). ⊎_elim
@@ -265,8 +265,8 @@ module _ (turns : List Turn) (bodies : List (List ℕ)) (first : Catalog) (o : O
         (take t.told.0 told, refl))
         moment
       where
-        stepped : (said : List ℕ) (p : Pair) → Stands (so_far ++ writes now.files c) (file_command now.files c).1 (p.areas areas.Files)
-            → extended said o.told ≡ Some p.told → IsFront said (script_text (r.count + 1) first.files turns) → IsFront r.said said
+        stepped : (said : List ℕ) (p : CrashState) → Stands (so_far ++ writes now.files c) (file_command now.files c).1 (p.areas areas.Files)
+            → extended said o.told ≡ Some p.told → IsPrefix said (script_text (r.count + 1) first.files turns) → IsPrefix r.said said
             → IsAfterSteps turns bodies first.files o.told p
         stepped said p stands told_is ahead behind =
             after_steps (r.count + 1) said p (omega (arith, enough, ap length is))

@@ -5,7 +5,7 @@ use Rattle.std.proofs.lemmas.List.{append-nil}
 use Rattle.std.proofs.lemmas.Option.{slice_get_within}
 use Rattle.std.specs.List.{cons_option}
 use Rattle.dl_base.proofs.Moments.{moments_more}
-use Rattle.dl_base.specs.Outside.{Outside, Pair, Moments, extended}
+use Rattle.dl_base.specs.Outside.{Outside, CrashState, AtEveryMoment, extended}
 use Rattle.dl_base.specs.declared.area.Area.TheVariants as areas
 use Rattle.dl_base.specs.declared.fault.Full.{Full}
 use Rattle.dl_base.specs.declared.fault.Full.TheVariants as fulls
@@ -54,23 +54,23 @@ module _ (turns : List Turn) (bodies : List (List ℕ)) (first : Catalog) (o : O
           later n (after.files ∙ ap (λ (x : Option FileCmd). files_behind now.files x) at) (held (Some c) at) (told (Some c) at)
 
   -- a moment of the line, by its command
-  abbrev around : Option FileCmd → Pair → Type 0
+  abbrev around : Option FileCmd → CrashState → Type 0
   around x p =
       IsInStep (so_far turns bodies first o now (turn ∷ next) number m r) (line_writes now.files x) now.files (files_behind now.files x) m p
       ⊎ IsTelling (so_far turns bodies first o now (turn ∷ next) number m r ++ line_writes now.files x) (files_behind now.files x) (told_answer number (turn_answer now.files turn)) m p
 
   -- each moment of the line is one after some steps
-  pub moments_next : (n : Outside) → Moments (IsInLine number turn (so_far turns bodies first o now (turn ∷ next) number m r) now.files m) m n → Moments (IsAfterSteps turns bodies first.files o.told) m n
+  pub moments_next : (n : Outside) → AtEveryMoment (IsInLine number turn (so_far turns bodies first o now (turn ∷ next) number m r) now.files m) m n → AtEveryMoment (IsAfterSteps turns bodies first.files o.told) m n
   moments_next n moments = moments_more _ (IsAfterSteps turns bodies first.files o.told) m n wider moments
     where
-      by : (cmd : Option FileCmd) → turn_step turn ≡ cmd → (p : Pair) → around cmd p → IsAfterSteps turns bodies first.files o.told p
+      by : (cmd : Option FileCmd) → turn_step turn ≡ cmd → (p : CrashState) → around cmd p → IsAfterSteps turns bodies first.files o.told p
       by None at p moment =
           during_without turns bodies first o now (turn ∷ next) number m r (told_answer number (turn_answer now.files turn)) next (steps_of None at) (texts None at) p moment
       by (Some c) at p moment =
           during_with turns bodies first o now (turn ∷ next) number m r c (told_answer number (turn_answer now.files turn)) next (steps_of (Some c) at)
           (texts (Some c) at 0) (λ k. texts (Some c) at (suc k)) p moment
 
-      wider : (p : Pair) → IsInLine number turn (so_far turns bodies first o now (turn ∷ next) number m r) now.files m p → IsAfterSteps turns bodies first.files o.told p
+      wider : (p : CrashState) → IsInLine number turn (so_far turns bodies first o now (turn ∷ next) number m r) now.files m p → IsAfterSteps turns bodies first.files o.told p
       wider p moment = by (turn_step turn) refl p moment
 
   -- a line whose record would pass the limit

@@ -1,7 +1,7 @@
 -- From an opening and the lines to a whole run.
 use Rattle.std.proofs.Common.{◌≡◌, ◌⊎◌, inl, inr, ⊎_elim, ℕ, List, ◌++◌, refl, sym, ap, subst, ◌∙◌, Option, Some, Result, Ok, IsOk}
 use Rattle.dl_base.proofs.Moments.{moments_more, moments_then, moments_touch, since_begin}
-use Rattle.dl_base.specs.Outside.{Outside, Pair, Now, During, Moments, Touches, IsLawful, extended}
+use Rattle.dl_base.specs.Outside.{Outside, CrashState, Now, During, AtEveryMoment, ChangesOnly, IsLawful, extended}
 use Rattle.dl_base.specs.declared.area.Area.TheVariants as areas
 use Rattle.dl_base.specs.declared.fault.Full.{Full}
 use Rattle.dl_base.specs.declared.fault.StepFault.{StepFault}
@@ -15,7 +15,7 @@ use Rattle.meaning_files.specs.Files.{Files}
 use Rattle.meaning_script.specs.Steps.{steps, files_after}
 use Rattle.meaning_script.specs.declared.turn.Turn.{Turn}
 use Rattle.datalinks.specs.Codes.{step_end}
-use Rattle.datalinks.specs.Run.{whole_text, IsEntry, AllStand, IsInRun, IsAfterSteps, IsWholeRun, IsFullAt, AreDone}
+use Rattle.datalinks.specs.Run.{whole_text, IsEntry, EveryImageStands, IsInRun, IsAfterSteps, IsWholeRun, IsFullAt, AreDone}
 use Rattle.datalinks.specs.declared.status.Status.TheVariants as status
 
 module _ (o : Outside) (bodies : List (List ℕ)) (files : Files) (entry : IsEntry o bodies files) where
@@ -30,7 +30,7 @@ module _ (o : Outside) (bodies : List (List ℕ)) (files : Files) (entry : IsEnt
     pub holds_entry : Holds store bodies m
     holds_entry = subst (λ (l : List (List ℕ)). Holds store l m) found_is held
 
-  module _ (all : AllStand o) where
+  module _ (all : EveryImageStands o) where
     opening_stands : (c : List ℕ) → IsOpening areas.Files o c → IsOk (files_in c)
     opening_stands c opening = ⊎_elim
         (λ image. all c image)
@@ -41,23 +41,23 @@ module _ (o : Outside) (bodies : List (List ℕ)) (files : Files) (entry : IsEnt
         opening
 
     -- at the begin
-    pub run_at_entry : (turns : List Turn) (p : Pair) → Now o p → IsInRun turns bodies files o p
+    pub run_at_entry : (turns : List Turn) (p : CrashState) → Now o p → IsInRun turns bodies files o p
     run_at_entry turns p now = inl (record { told = now.told; image = inl (now.areas areas.Files); stands = all _ (now.areas areas.Files) })
 
     -- while the area is opened
-    pub run_opening : (turns : List Turn) (m : Outside) → Touches areas.Files (IsOpening areas.Files o) o m → Moments (IsInRun turns bodies files o) o m
+    pub run_opening : (turns : List Turn) (m : Outside) → ChangesOnly areas.Files (IsOpening areas.Files o) o m → AtEveryMoment (IsInRun turns bodies files o) o m
     run_opening turns m t = moments_touch areas.Files (IsOpening areas.Files o) (IsInRun turns bodies files o) o m
         (λ p (d : During areas.Files (IsOpening areas.Files o) o p). inl (record { told = d.told; image = d.here; stands = opening_stands _ d.here })) t
 
     -- and then the lines
-    pub run_then : (turns : List Turn) (store : Catalog) (m n : Outside) → Touches areas.Files (IsOpening areas.Files o) o m → store.files ≡ files
-        → Moments (IsAfterSteps turns bodies store.files m.told) m n → Moments (IsInRun turns bodies files o) o n
+    pub run_then : (turns : List Turn) (store : Catalog) (m n : Outside) → ChangesOnly areas.Files (IsOpening areas.Files o) o m → store.files ≡ files
+        → AtEveryMoment (IsAfterSteps turns bodies store.files m.told) m n → AtEveryMoment (IsInRun turns bodies files o) o n
     run_then turns store m n t same lines = moments_then (IsInRun turns bodies files o) o m n (run_opening turns m t)
         (moments_more (IsAfterSteps turns bodies store.files m.told) (IsInRun turns bodies files o) m n
         (λ p after. inr (subst (λ (f : Files). IsAfterSteps turns bodies f o.told p) same (subst (λ (told : Option (List ℕ)). IsAfterSteps turns bodies store.files told p) t.told after))) lines)
 
     -- every moment since the begin
-    pub run_since : (turns : List Turn) (n : Outside) → IsLawful o → Moments (IsInRun turns bodies files o) o n → (p : Pair) → n.since o.moment p → IsInRun turns bodies files o p
+    pub run_since : (turns : List Turn) (n : Outside) → IsLawful o → AtEveryMoment (IsInRun turns bodies files o) o n → (p : CrashState) → n.since o.moment p → IsInRun turns bodies files o p
     run_since turns n law moments p left = since_begin (IsInRun turns bodies files o) o n law moments (run_at_entry turns) p left
 
   -- a run that is whole

@@ -1,6 +1,6 @@
 -- Which ends are left where no cause of another is there.
 use Rattle.std.specs.Prelude.{◌≡◌, ℕ, List, Some, IsOk}
-use Rattle.dl_base.specs.Outside.{Outside, Rose}
+use Rattle.dl_base.specs.Outside.{Outside, FaultCounted}
 use Rattle.dl_base.specs.declared.area.Area.TheVariants as areas
 use Rattle.dl_base.specs.declared.fault.Full.{Full}
 use Rattle.meaning_areas.specs.FilesArea.{files_in}
@@ -18,7 +18,7 @@ IsDone _ = ⊥
 
 -- No call on the bench failed, and no step's record would pass the limit of the area Files.
 pub record HasRoom (turns : List Turn) (limit : ℕ) (bodies : List (List ℕ)) (files : Files) (o n : Outside) : Type 0 where
-  pub calm : Rose o n → ⊥
+  pub calm : FaultCounted o n → ⊥
   pub room : (full : Full) → IsFullAt turns bodies files limit full → ⊥
 
 -- the ends of a run whose script was read, and of one whose area Files was opened

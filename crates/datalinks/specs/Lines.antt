@@ -1,6 +1,6 @@
 -- What a step, and a line, does to the area Files and to what is told, at each moment.
 use Rattle.std.specs.Prelude.{◌≡◌, ◌≢◌, ◌⊎◌, ℕ, List, [], ◌++◌, Option, Some, None}
-use Rattle.dl_base.specs.Outside.{Outside, Pair, Moments, TellsFront, extended}
+use Rattle.dl_base.specs.Outside.{Outside, CrashState, AtEveryMoment, TellsFront, extended}
 use Rattle.dl_base.specs.declared.area.Area.{Area}
 use Rattle.dl_base.specs.declared.area.Area.TheVariants as areas
 use Rattle.dl_base.specs.declared.fault.Full.{Full}
@@ -13,14 +13,14 @@ use Rattle.meaning_script.specs.Steps.{turn_step, turn_answer, files_behind, tol
 use Rattle.meaning_script.specs.declared.turn.Turn.{Turn}
 
 -- what a crash leaves in each area but Files is what it might have left there before
-abbrev pub OthersWere : Outside → Pair → Type 0
+abbrev pub OthersWere : Outside → CrashState → Type 0
 OthersWere o p = (a : Area) → a ≢ areas.Files → o.image a (p.areas a)
 
 -- No area but Files is touched: each reads as it did, and a crash, at any moment and afterwards, leaves there what it might have left before.
 pub record OthersStand (o n : Outside) : Type 0 where
   pub reads : (a : Area) → a ≢ areas.Files → n.reads a ≡ o.reads a
   pub images : (a : Area) → a ≢ areas.Files → (c : List ℕ) → n.image a c → o.image a c
-  pub moments : Moments (OthersWere o) o n
+  pub moments : AtEveryMoment (OthersWere o) o n
 
 -- the bodies that a line's step writes
 abbrev pub line_writes : Files → Option FileCmd → List (List ℕ)
@@ -32,17 +32,17 @@ abbrev pub line_told : ℕ → Files → Turn → List ℕ
 line_told number files turn = told_answer number (turn_answer files turn)
 
 -- A crash inside a step: nothing more is told, and the area is as before it or as after it.
-pub record IsInStep (bodies more : List (List ℕ)) (files later : Files) (o : Outside) (p : Pair) : Type 0 where
+pub record IsInStep (bodies more : List (List ℕ)) (files later : Files) (o : Outside) (p : CrashState) : Type 0 where
   pub told : o.told ≡ Some p.told
   pub area : Stands bodies files (p.areas areas.Files) ⊎ Stands (bodies ++ more) later (p.areas areas.Files)
 
 -- A crash behind a step, while its line is told.
-pub record IsTelling (bodies : List (List ℕ)) (files : Files) (line : List ℕ) (o : Outside) (p : Pair) : Type 0 where
+pub record IsTelling (bodies : List (List ℕ)) (files : Files) (line : List ℕ) (o : Outside) (p : CrashState) : Type 0 where
   pub told : TellsFront line o.told p.told
   pub area : Stands bodies files (p.areas areas.Files)
 
 -- a crash inside a line
-abbrev pub IsInLine : ℕ → Turn → List (List ℕ) → Files → Outside → Pair → Type 0
+abbrev pub IsInLine : ℕ → Turn → List (List ℕ) → Files → Outside → CrashState → Type 0
 IsInLine number turn bodies files o p =
     IsInStep bodies (line_writes files (turn_step turn)) files (files_behind files (turn_step turn)) o p
     ⊎ IsTelling (bodies ++ line_writes files (turn_step turn)) (files_behind files (turn_step turn)) (line_told number files turn) o p

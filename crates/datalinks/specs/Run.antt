@@ -1,7 +1,7 @@
 -- What a run of a script does, at each moment, and what it leaves.
 use Rattle.std.specs.Prelude.{◌≡◌, ◌⊎◌, ℕ, ◌+◌, ◌-◌, ◌<◌, ◌≤◌, ◌^◌, min, List, ◌++◌, length, take, slice_get, Option, Some, None, Ok, Err, IsOk}
 use Rattle.std.specs.Str.Lines.{lines}
-use Rattle.dl_base.specs.Outside.{Outside, Pair, extended}
+use Rattle.dl_base.specs.Outside.{Outside, CrashState, extended}
 use Rattle.dl_base.specs.declared.area.Area.{Area}
 use Rattle.dl_base.specs.declared.area.Area.TheVariants as areas
 use Rattle.dl_base.specs.declared.fault.Full.{Full}
@@ -35,20 +35,20 @@ abbrev pub whole_text : Files → List Turn → List ℕ
 whole_text files turns = script_text (length (steps turns)) files turns
 
 -- the second text goes on from the first
-abbrev pub IsFront : List ℕ → List ℕ → Type 0
-IsFront front text = (rest : List ℕ) × (text ≡ front ++ rest)
+abbrev pub IsPrefix : List ℕ → List ℕ → Type 0
+IsPrefix front text = (rest : List ℕ) × (text ≡ front ++ rest)
 
 -- A crash after k steps, from a list of bodies and its files: the area Files has that list and what the k steps wrote,
 -- and stands for the files after them. What was told is a front of the text, and has all lines before that of step k.
-pub record IsAfterSteps (turns : List Turn) (bodies : List (List ℕ)) (files : Files) (before : Option (List ℕ)) (p : Pair) : Type 0 where
+pub record IsAfterSteps (turns : List Turn) (bodies : List (List ℕ)) (files : Files) (before : Option (List ℕ)) (p : CrashState) : Type 0 where
   pub count : ℕ
   pub some : count ≤ length (steps turns)
   pub list : records (p.areas areas.Files) ≡ Ok (bodies ++ written files (first_steps count turns))
   pub recovers : files_in (p.areas areas.Files) ≡ Ok (files_after files (first_steps count turns))
   pub said : List ℕ
   pub told : extended said before ≡ Some p.told
-  pub not_ahead : IsFront said (script_text count files turns)
-  pub not_behind : 0 < count → IsFront (script_text (count - 1) files turns) said
+  pub not_ahead : IsPrefix said (script_text count files turns)
+  pub not_behind : 0 < count → IsPrefix (script_text (count - 1) files turns) said
 
 -- at the begin of a run the area Files reads as these bodies, and they stand for these files
 pub record IsEntry (o : Outside) (bodies : List (List ℕ)) (files : Files) : Type 0 where
@@ -74,22 +74,22 @@ pub record Begins (words : List (List ℕ)) (rest : Option (List ℕ)) (o : Outs
   pub area_has : IsEntry o run.bodies run.files
 
 -- whatever a crash leaves of the area Files stands for some files
-abbrev pub AllStand : Outside → Type 0
-AllStand o = (c : List ℕ) → o.image areas.Files c → IsOk (files_in c)
+abbrev pub EveryImageStands : Outside → Type 0
+EveryImageStands o = (c : List ℕ) → o.image areas.Files c → IsOk (files_in c)
 
 -- A crash during an opening: nothing is told, and the area Files has an image that it had, or the list that it read.
-pub record IsOfOpening (o : Outside) (p : Pair) : Type 0 where
+pub record IsOfOpening (o : Outside) (p : CrashState) : Type 0 where
   pub told : o.told ≡ Some p.told
   pub image : IsOpening areas.Files o (p.areas areas.Files)
   pub stands : IsOk (files_in (p.areas areas.Files))
 
 -- what all areas read now, and all that was told
-pub record IsSeen (o : Outside) (p : Pair) : Type 0 where
+pub record IsSeen (o : Outside) (p : CrashState) : Type 0 where
   pub told : o.told ≡ Some p.told
   pub areas : (a : Area) → o.reads a ≡ Some (p.areas a)
 
 -- a crash at a moment of a run
-abbrev pub IsInRun : List Turn → List (List ℕ) → Files → Outside → Pair → Type 0
+abbrev pub IsInRun : List Turn → List (List ℕ) → Files → Outside → CrashState → Type 0
 IsInRun turns bodies files o p = IsOfOpening o p ⊎ IsAfterSteps turns bodies files o.told p
 
 -- the area is no list of records, or its records stand for nothing: nothing was written

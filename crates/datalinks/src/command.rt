@@ -1,6 +1,6 @@
 // A command on one thread.
 ghost use Rattle.std.specs.Prelude.{◌≡◌, ◌≤◌, ◌^◌, ℕ, List, [], Some, None, length};
-ghost use Rattle.dl_base.specs.Outside.{Moments, Pair, Rose};
+ghost use Rattle.dl_base.specs.Outside.{AtEveryMoment, CrashState, FaultCounted};
 ghost use Rattle.dl_base.specs.Sources.{RoseFrom};
 ghost use Rattle.dl_base.specs.declared.area.Area.{Area};
 ghost use Rattle.dl_base.specs.declared.fault.Full.{Full};
@@ -10,7 +10,7 @@ ghost use Rattle.meaning_script.specs.declared.turn.Turn.{Turn};
 ghost use Rattle.datalinks.specs.Codes.{IsRunEnd, IsUsage, opening_end, step_end, script_end};
 ghost use Rattle.datalinks.specs.Complete.{IsDone, HasRoom, WasRead, WasOpened, StandsNow};
 ghost use Rattle.datalinks.specs.Lines.{OthersStand};
-ghost use Rattle.datalinks.specs.Run.{Runs, Begun, Begins, IsEntry, IsSeen, AllStand, IsAfterSteps, IsInRun, IsWholeRun, IsFullAt, IsNoStore};
+ghost use Rattle.datalinks.specs.Run.{Runs, Begun, Begins, IsEntry, IsSeen, EveryImageStands, IsAfterSteps, IsInRun, IsWholeRun, IsFullAt, IsNoStore};
 ghost use Rattle.datalinks.specs.Script.{IsTooLong, most_bytes};
 ghost use Rattle.run_args.specs.Words.{settings};
 
@@ -43,17 +43,17 @@ pub fn single<S: Source, B: Bench>(
 
     // A crash at any moment leaves the area after some of the steps, in order, and what was told does not run ahead.
     ensures history { (run : Begun) → Begins words.now (S.rest source.old) (B.outside bench) run
-        → AllStand (B.outside bench) → (p : Pair) → (B.outside result.1).since (B.outside bench).moment p → IsInRun run.turns run.bodies run.files (B.outside bench) p }
+        → EveryImageStands (B.outside bench) → (p : CrashState) → (B.outside result.1).since (B.outside bench).moment p → IsInRun run.turns run.bodies run.files (B.outside bench) p }
 
     // However it ends, nothing was written but the records of some of the steps, in order, and what is told shows which.
     ensures left { (run : Begun) → Begins words.now (S.rest source.old) (B.outside bench) run
-        → (p : Pair) → IsSeen (B.outside result.1) p → IsAfterSteps run.turns run.bodies run.files (B.outside bench).told p }
+        → (p : CrashState) → IsSeen (B.outside result.1) p → IsAfterSteps run.turns run.bodies run.files (B.outside bench).told p }
 
     // However it ends, no area but Files is written, at no moment: tables last for the run alone.
     ensures others { OthersStand (B.outside bench) (B.outside result.1) }
 
     // Every other end has its cause.
-    ensures device { result.0 ≡ Status.Device → Rose (B.outside bench) (B.outside result.1) }
+    ensures device { result.0 ≡ Status.Device → FaultCounted (B.outside bench) (B.outside result.1) }
     ensures source { result.0 ≡ Status.Source → RoseFrom (S.faults source.old) (S.faults source.new) × (result.1 ≡ bench) }
     ensures too_long { (n : ℕ) → result.0 ≡ Status.TooLong n → IsTooLong n (S.rest source.old) × (result.1 ≡ bench) }
     ensures not_a_store { (area : Area) (place : ℕ) → result.0 ≡ Status.NotAStore area place → IsNoStore area place (B.outside bench) (B.outside result.1) }
@@ -91,12 +91,12 @@ fn command<S: Source, B: Bench>(
         → IsWholeRun turns given.entry.now.limit bodies files (B.outside bench) (B.outside result.1) × (S.rest source.new ≡ Some []) × (length script ≤ most_bytes) }
     ensures history { (script : List ℕ) → S.rest source.old ≡ Some script → (turns : List Turn) → Runs given.entry.now script turns
         → (bodies : List (List ℕ)) (files : FilesByPath) → IsEntry (B.outside bench) bodies files
-        → AllStand (B.outside bench) → (p : Pair) → (B.outside result.1).since (B.outside bench).moment p → IsInRun turns bodies files (B.outside bench) p }
+        → EveryImageStands (B.outside bench) → (p : CrashState) → (B.outside result.1).since (B.outside bench).moment p → IsInRun turns bodies files (B.outside bench) p }
     ensures left { (script : List ℕ) → S.rest source.old ≡ Some script → (turns : List Turn) → Runs given.entry.now script turns
         → (bodies : List (List ℕ)) (files : FilesByPath) → IsEntry (B.outside bench) bodies files
-        → (p : Pair) → IsSeen (B.outside result.1) p → IsAfterSteps turns bodies files (B.outside bench).told p }
+        → (p : CrashState) → IsSeen (B.outside result.1) p → IsAfterSteps turns bodies files (B.outside bench).told p }
     ensures others { OthersStand (B.outside bench) (B.outside result.1) }
-    ensures device { result.0 ≡ Status.Device → Rose (B.outside bench) (B.outside result.1) }
+    ensures device { result.0 ≡ Status.Device → FaultCounted (B.outside bench) (B.outside result.1) }
     ensures source { result.0 ≡ Status.Source → RoseFrom (S.faults source.old) (S.faults source.new) × (result.1 ≡ bench) }
     ensures too_long { (n : ℕ) → result.0 ≡ Status.TooLong n → IsTooLong n (S.rest source.old) × (result.1 ≡ bench) }
     ensures not_a_store { (area : Area) (place : ℕ) → result.0 ≡ Status.NotAStore area place → IsNoStore area place (B.outside bench) (B.outside result.1) }
@@ -133,12 +133,12 @@ fn run<B: Bench>(alloc: Global, mut bench: B, given: &Settings, script: &[u8]) -
     ensures read { result.0 ≡ Status.Done → (turns : List Turn) × Runs given.entry.now script.now turns }
     ensures whole { result.0 ≡ Status.Done → (turns : List Turn) → Runs given.entry.now script.now turns → (bodies : List (List ℕ)) (files : FilesByPath) → IsEntry (B.outside bench) bodies files
         → IsWholeRun turns given.entry.now.limit bodies files (B.outside bench) (B.outside result.1) }
-    ensures history { (turns : List Turn) → Runs given.entry.now script.now turns → (bodies : List (List ℕ)) (files : FilesByPath) → IsEntry (B.outside bench) bodies files → AllStand (B.outside bench)
-        → Moments (IsInRun turns bodies files (B.outside bench)) (B.outside bench) (B.outside result.1) }
+    ensures history { (turns : List Turn) → Runs given.entry.now script.now turns → (bodies : List (List ℕ)) (files : FilesByPath) → IsEntry (B.outside bench) bodies files → EveryImageStands (B.outside bench)
+        → AtEveryMoment (IsInRun turns bodies files (B.outside bench)) (B.outside bench) (B.outside result.1) }
     ensures left { (turns : List Turn) → Runs given.entry.now script.now turns → (bodies : List (List ℕ)) (files : FilesByPath) → IsEntry (B.outside bench) bodies files
-        → (p : Pair) → IsSeen (B.outside result.1) p → IsAfterSteps turns bodies files (B.outside bench).told p }
+        → (p : CrashState) → IsSeen (B.outside result.1) p → IsAfterSteps turns bodies files (B.outside bench).told p }
     ensures others { OthersStand (B.outside bench) (B.outside result.1) }
-    ensures device { result.0 ≡ Status.Device → Rose (B.outside bench) (B.outside result.1) }
+    ensures device { result.0 ≡ Status.Device → FaultCounted (B.outside bench) (B.outside result.1) }
     ensures not_a_store { (area : Area) (place : ℕ) → result.0 ≡ Status.NotAStore area place → IsNoStore area place (B.outside bench) (B.outside result.1) }
     ensures full { (full : Full) → result.0 ≡ Status.Full full → (turns : List Turn) → Runs given.entry.now script.now turns → (bodies : List (List ℕ)) (files : FilesByPath) → IsEntry (B.outside bench) bodies files
         → IsFullAt turns bodies files given.entry.now.limit full }

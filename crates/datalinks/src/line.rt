@@ -1,7 +1,7 @@
 // One line: its step, and what is told of it.
 ghost use Rattle.std.specs.Prelude.{◌≡◌, ◌≢◌, ◌≤◌, ℕ, List, [], ◌++◌, Some, None, Err, IfOk, OnOk};
 ghost use Rattle.std.specs.FinMap as map;
-ghost use Rattle.dl_base.specs.Outside.{Moments, Says, Rose, extended};
+ghost use Rattle.dl_base.specs.Outside.{AtEveryMoment, Says, FaultCounted, extended};
 ghost use Rattle.dl_base.specs.declared.fault.Full.{Full};
 ghost use Rattle.fs_files.specs.Store.{Holds, IsReady};
 ghost use Rattle.meaning_areas.specs.FilesArea.{writes};
@@ -36,7 +36,7 @@ pub fn do_line<B: Bench>(
     ensures ready { OnOk result (IsReady store.new (B.outside bench.new)) }
     ensures read { OnOk result ((turn : turned.Turn) × IsTurn given.entry.now sessions.old line.now turn sessions.new) }
     ensures images { (turn : turned.Turn) (later : SessionsMeant) → IsTurn given.entry.now sessions.old line.now turn later → (bodies : List (List ℕ)) → Holds store.old bodies (B.outside bench.old)
-        → Moments (IsInLine number turn bodies store.old.files (B.outside bench.old)) (B.outside bench.old) (B.outside bench.new) }
+        → AtEveryMoment (IsInLine number turn bodies store.old.files (B.outside bench.old)) (B.outside bench.old) (B.outside bench.new) }
     ensures done { OnOk result ((turn : turned.Turn) (later : SessionsMeant) → IsTurn given.entry.now sessions.old line.now turn later
         → (later ≡ sessions.new) × ((bodies : List (List ℕ)) → Holds store.old bodies (B.outside bench.old) → IsAfterLine number turn bodies store.old store.new (B.outside bench.old) (B.outside bench.new))) }
     ensures limit { store.new.limit ≡ store.old.limit }
@@ -44,7 +44,7 @@ pub fn do_line<B: Bench>(
     ensures room { OnOk result ((turn : turned.Turn) (later : SessionsMeant) → IsTurn given.entry.now sessions.old line.now turn later → (full : Full) → IsFullLine store.old turn full → ⊥) }
     ensures others { OthersStand (B.outside bench.old) (B.outside bench.new) }
     ensures faults { (B.outside bench.old).faults ≤ (B.outside bench.new).faults }
-    ensures device { result ≡ Err StepFault.Device → Rose (B.outside bench.old) (B.outside bench.new) }
+    ensures device { result ≡ Err StepFault.Device → FaultCounted (B.outside bench.old) (B.outside bench.new) }
 {
     let turn = sessions.turn(alloc, given, line)?;
     take_turn(alloc, bench, store, number, turn)
@@ -61,14 +61,14 @@ fn take_turn<B: Bench>(
 ) -> Result<(), StepFault>
     requires { IsReady store.old (B.outside bench.old) }
     ensures ready { OnOk result (IsReady store.new (B.outside bench.new)) }
-    ensures images { (bodies : List (List ℕ)) → Holds store.old bodies (B.outside bench.old) → Moments (IsInLine number turn bodies store.old.files (B.outside bench.old)) (B.outside bench.old) (B.outside bench.new) }
+    ensures images { (bodies : List (List ℕ)) → Holds store.old bodies (B.outside bench.old) → AtEveryMoment (IsInLine number turn bodies store.old.files (B.outside bench.old)) (B.outside bench.old) (B.outside bench.new) }
     ensures done { OnOk result ((bodies : List (List ℕ)) → Holds store.old bodies (B.outside bench.old) → IsAfterLine number turn bodies store.old store.new (B.outside bench.old) (B.outside bench.new)) }
     ensures limit { store.new.limit ≡ store.old.limit }
     ensures full { (full : Full) → result ≡ Err (StepFault.Full full) → IsFullLine store.old turn full }
     ensures room { OnOk result ((full : Full) → IsFullLine store.old turn full → ⊥) }
     ensures others { OthersStand (B.outside bench.old) (B.outside bench.new) }
     ensures faults { (B.outside bench.old).faults ≤ (B.outside bench.new).faults }
-    ensures device { result ≡ Err StepFault.Device → Rose (B.outside bench.old) (B.outside bench.new) }
+    ensures device { result ≡ Err StepFault.Device → FaultCounted (B.outside bench.old) (B.outside bench.new) }
 {
     match answer_turn(bench, store, turn)? {
         Some(answer) => tell(alloc, bench, number, answer),
@@ -89,7 +89,7 @@ fn tell<B: Bench>(
     ensures not_full { (full : Full) → result ≢ Err (StepFault.Full full) }
     ensures others { OthersStand (B.outside bench.old) (B.outside bench.new) }
     ensures faults { (B.outside bench.old).faults ≤ (B.outside bench.new).faults }
-    ensures device { result ≡ Err StepFault.Device → Rose (B.outside bench.old) (B.outside bench.new) }
+    ensures device { result ≡ Err StepFault.Device → FaultCounted (B.outside bench.old) (B.outside bench.new) }
 {
     let text = told(alloc, number, answer)?;
     bench.say(text.bytes())?;
@@ -117,14 +117,14 @@ fn answer_turn<B: Bench>(
     ensures kept { OnOk result ((bodies : List (List ℕ)) → Holds store.old bodies (B.outside bench.old) → Holds store.new (bodies ++ line_writes store.old.files (turn_step turn)) (B.outside bench.new)) }
     ensures ready { OnOk result (IsReady store.new (B.outside bench.new)) }
     ensures images { (bodies : List (List ℕ)) → Holds store.old bodies (B.outside bench.old)
-        → Moments (IsInStep bodies (line_writes store.old.files (turn_step turn)) store.old.files (files_behind store.old.files (turn_step turn)) (B.outside bench.old)) (B.outside bench.old) (B.outside bench.new) }
+        → AtEveryMoment (IsInStep bodies (line_writes store.old.files (turn_step turn)) store.old.files (files_behind store.old.files (turn_step turn)) (B.outside bench.old)) (B.outside bench.old) (B.outside bench.new) }
     ensures told { (B.outside bench.new).told ≡ (B.outside bench.old).told }
     ensures limit { store.new.limit ≡ store.old.limit }
     ensures full { (full : Full) → result ≡ Err (StepFault.Full full) → IsFullLine store.old turn full }
     ensures room { OnOk result ((full : Full) → IsFullLine store.old turn full → ⊥) }
     ensures others { OthersStand (B.outside bench.old) (B.outside bench.new) }
     ensures faults { (B.outside bench.old).faults ≤ (B.outside bench.new).faults }
-    ensures device { result ≡ Err StepFault.Device → Rose (B.outside bench.old) (B.outside bench.new) }
+    ensures device { result ≡ Err StepFault.Device → FaultCounted (B.outside bench.old) (B.outside bench.new) }
 {
     match turn {
         Turn::Quiet => Ok(None),
@@ -142,14 +142,14 @@ fn step<B: Bench>(bench: &mut B, store: &mut Files, cmd: FileCmd) -> Result<Answ
     ensures kept { OnOk result ((bodies : List (List ℕ)) → Holds store.old bodies (B.outside bench.old) → Holds store.new (bodies ++ writes store.old.files cmd) (B.outside bench.new)) }
     ensures ready { OnOk result (IsReady store.new (B.outside bench.new)) }
     ensures images { (bodies : List (List ℕ)) → Holds store.old bodies (B.outside bench.old)
-        → Moments (IsInStep bodies (writes store.old.files cmd) store.old.files (file_command store.old.files cmd).1 (B.outside bench.old)) (B.outside bench.old) (B.outside bench.new) }
+        → AtEveryMoment (IsInStep bodies (writes store.old.files cmd) store.old.files (file_command store.old.files cmd).1 (B.outside bench.old)) (B.outside bench.old) (B.outside bench.new) }
     ensures told { (B.outside bench.new).told ≡ (B.outside bench.old).told }
     ensures limit { store.new.limit ≡ store.old.limit }
     ensures full { (full : Full) → result ≡ Err (StepFault.Full full) → IsFullStep store.old cmd full }
     ensures room { OnOk result ((full : Full) → IsFullStep store.old cmd full → ⊥) }
     ensures others { OthersStand (B.outside bench.old) (B.outside bench.new) }
     ensures faults { (B.outside bench.old).faults ≤ (B.outside bench.new).faults }
-    ensures device { result ≡ Err StepFault.Device → Rose (B.outside bench.old) (B.outside bench.new) }
+    ensures device { result ≡ Err StepFault.Device → FaultCounted (B.outside bench.old) (B.outside bench.new) }
 {
     match store.test(&cmd, None)? {
         Some(why) => Ok(Answer::Refused(Refusal::File(why))),
@@ -167,14 +167,14 @@ fn accepted<B: Bench>(bench: &mut B, store: &mut Files, cmd: FileCmd) -> Result<
     ensures kept { OnOk result ((bodies : List (List ℕ)) → Holds store.old bodies (B.outside bench.old) → Holds store.new (bodies ++ writes store.old.files cmd) (B.outside bench.new)) }
     ensures ready { OnOk result (IsReady store.new (B.outside bench.new)) }
     ensures images { (bodies : List (List ℕ)) → Holds store.old bodies (B.outside bench.old)
-        → Moments (IsInStep bodies (writes store.old.files cmd) store.old.files (changed store.old.files cmd) (B.outside bench.old)) (B.outside bench.old) (B.outside bench.new) }
+        → AtEveryMoment (IsInStep bodies (writes store.old.files cmd) store.old.files (changed store.old.files cmd) (B.outside bench.old)) (B.outside bench.old) (B.outside bench.new) }
     ensures told { (B.outside bench.new).told ≡ (B.outside bench.old).told }
     ensures limit { store.new.limit ≡ store.old.limit }
     ensures full { (full : Full) → result ≡ Err (StepFault.Full full) → IsFullStep store.old cmd full }
     ensures room { OnOk result ((full : Full) → IsFullStep store.old cmd full → ⊥) }
     ensures others { OthersStand (B.outside bench.old) (B.outside bench.new) }
     ensures faults { (B.outside bench.old).faults ≤ (B.outside bench.new).faults }
-    ensures device { result ≡ Err StepFault.Device → Rose (B.outside bench.old) (B.outside bench.new) }
+    ensures device { result ≡ Err StepFault.Device → FaultCounted (B.outside bench.old) (B.outside bench.new) }
 {
     let FileCmd { user, what } = cmd;
     match what {

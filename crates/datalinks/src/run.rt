@@ -1,7 +1,7 @@
 // The lines of a script, one after another.
 ghost use Rattle.std.specs.Prelude.{◌≡◌, ◌≤◌, ℕ, List, Err, OnOk};
 ghost use Rattle.std.specs.Str.Lines.{lines};
-ghost use Rattle.dl_base.specs.Outside.{Moments, Rose};
+ghost use Rattle.dl_base.specs.Outside.{AtEveryMoment, FaultCounted};
 ghost use Rattle.dl_base.specs.declared.fault.Full.{Full};
 ghost use Rattle.fs_files.specs.Store.{Holds, IsReady};
 ghost use Rattle.meaning_machine.specs.Turns.{AreTurns};
@@ -28,7 +28,7 @@ pub fn run_lines<B: Bench>(
 ) -> Result<(), StepFault>
     requires { IsReady store.old (B.outside bench.old) }
     ensures images { (turns : List Turn) → AreTurns given.entry.now sessions.old (lines script.now) turns → (bodies : List (List ℕ)) → Holds store.old bodies (B.outside bench.old)
-        → Moments (IsAfterSteps turns bodies store.old.files (B.outside bench.old).told) (B.outside bench.old) (B.outside bench.new) }
+        → AtEveryMoment (IsAfterSteps turns bodies store.old.files (B.outside bench.old).told) (B.outside bench.old) (B.outside bench.new) }
     ensures done { OnOk result ((turns : List Turn) → AreTurns given.entry.now sessions.old (lines script.now) turns → (bodies : List (List ℕ)) → Holds store.old bodies (B.outside bench.old)
         → AreDone turns bodies store.old store.new (B.outside bench.old) (B.outside bench.new)) }
     ensures read { OnOk result ((turns : List Turn) × AreTurns given.entry.now sessions.old (lines script.now) turns) }
@@ -36,7 +36,7 @@ pub fn run_lines<B: Bench>(
         → IsFullAt turns bodies store.old.files store.old.limit full }
     ensures others { OthersStand (B.outside bench.old) (B.outside bench.new) }
     ensures faults { (B.outside bench.old).faults ≤ (B.outside bench.new).faults }
-    ensures device { result ≡ Err StepFault.Device → Rose (B.outside bench.old) (B.outside bench.new) }
+    ensures device { result ≡ Err StepFault.Device → FaultCounted (B.outside bench.old) (B.outside bench.new) }
 {
     let mut rest = script;
     let mut number: u64 = 1;

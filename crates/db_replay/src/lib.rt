@@ -10,6 +10,3 @@ mod standing;
 
 pub use changes::Change;
 pub use replaying::{Replayed, replay};
-
-#[cfg(test)]
-mod tests;

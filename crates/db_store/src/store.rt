@@ -4,7 +4,7 @@ ghost use Rattle.std.specs.Option.{option_map};
 ghost use Rattle.std.specs.Result.{result_err};
 ghost use Rattle.dl_areas.specs.Opening.{IsOpened, OpensOne};
 ghost use Rattle.dl_areas.specs.Writing.{DoesAlone};
-ghost use Rattle.dl_base.specs.Outside.{Rose};
+ghost use Rattle.dl_base.specs.Outside.{FaultCounted};
 ghost use Rattle.dl_base.specs.declared.area.Area.TheVariants as areas;
 ghost use Rattle.dl_base.specs.declared.fault.AppendFault.TheVariants as appends;
 ghost use Rattle.dl_codec.specs.Rows.{rows_record};
@@ -91,7 +91,7 @@ impl Store {
 
         ensures no_rows { (place : ℕ) → result ≡ Err (BeginFault.NotAJournal place) → (told : List ℕ) → (B.outside bench.old).reads areas.Rows ≡ Some told → rows_in told ≡ Err place }
         ensures untouched { (place : ℕ) → result ≡ Err (BeginFault.NotAJournal place) → IsUnwritten areas.Rows (B.outside bench.old) (B.outside bench.new) }
-        ensures device { result ≡ Err BeginFault.Device → Rose (B.outside bench.old) (B.outside bench.new) }
+        ensures device { result ≡ Err BeginFault.Device → FaultCounted (B.outside bench.old) (B.outside bench.new) }
     {
         let (journal, bodies) = Journal::begin(alloc, bench, Area::Rows, limit)?;
         let history = fold(alloc, &bodies)?;

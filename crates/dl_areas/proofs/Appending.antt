@@ -4,7 +4,7 @@ use Rattle.std.proofs.lemmas.Bool.Decides.{nat_tests}
 use Rattle.std.specs.Option.{option_or}
 use Rattle.std.specs.Result.{result_err}
 use Rattle.dl_base.proofs.Moments.{moments_none, moments_touch}
-use Rattle.dl_base.specs.Outside.{Outside, Pair, During, Touches, Moments, Rose}
+use Rattle.dl_base.specs.Outside.{Outside, CrashState, During, ChangesOnly, AtEveryMoment, FaultCounted}
 use Rattle.dl_base.specs.declared.area.Area.{Area}
 use Rattle.dl_base.specs.declared.fault.AppendFault.{AppendFault}
 use Rattle.dl_base.specs.declared.fault.AppendFault.TheVariants as appends
@@ -14,7 +14,7 @@ use Rattle.dl_journal.specs.Extent.{Extent}
 use Rattle.dl_journal.specs.Open.{IsOpen, Keeps, AddsOne, grown}
 use Rattle.dl_journal.specs.Records.{IsAtRest}
 use Rattle.dl_areas.specs.Lists.{Lists, Journals, Write, write_of, put, puts, grown_by, with_journal, AreReady, AreKept}
-use Rattle.dl_areas.specs.Writing.{full_in, fitting, past_limit, unless, IsPrefix, Does, DoesAlone}
+use Rattle.dl_areas.specs.Writing.{full_in, fitting, past_limit, unless, LeavesPrefix, Does, DoesAlone}
 use Rattle.dl_areas.proofs.Doing.{does-none, does-then, does-stop}
 use Rattle.dl_areas.proofs.Places.{each, here, there, with-here, with-other, with-same, with-over}
 
@@ -52,12 +52,12 @@ module _ (js : Journals) (j k : Extent) (body : List ℕ) (o n : Outside) (ready
   grown-all is = λ i b. each (λ c. with_journal k js c ≡ grown_by w js c) j.area (now-here ∙ is ∙ sym grown-here)
       (λ c other. now-other c other ∙ sym (there j.area c other (grown (js c) (length body)) (js c))) b i
 
-  module _ (adds : Touches j.area (AddsOne j body o) o n) where
+  module _ (adds : ChangesOnly j.area (AddsOne j body o) o n) where
     -- the moments of it
-    one-moments : (lists : Lists) → AreKept js lists o → Moments (IsPrefix lists (w ∷ []) o) o n
-    one-moments lists kept = moments_touch j.area (AddsOne j body o) (IsPrefix lists (w ∷ []) o) o n during adds
+    one-moments : (lists : Lists) → AreKept js lists o → AtEveryMoment (LeavesPrefix lists (w ∷ []) o) o n
+    one-moments lists kept = moments_touch j.area (AddsOne j body o) (LeavesPrefix lists (w ∷ []) o) o n during adds
       where
-        during : (p : Pair) → During j.area (AddsOne j body o) o p → IsPrefix lists (w ∷ []) o p
+        during : (p : CrashState) → During j.area (AddsOne j body o) o p → LeavesPrefix lists (w ∷ []) o p
         during p d =
             let old : (b : Area) → b ≢ j.area → IsAtRest (lists b) (p.areas b) =
             λ b other. (kept b).images (p.areas b) (let I : Area → Type 0 = λ c. o.image (js b).area (p.areas c) in subst I (ready.areas b) (d.others (js b).area (apart b other))) in
@@ -115,16 +115,16 @@ module _ (js : Journals) (j k : Extent) (body : List ℕ) (o n : Outside) (ready
   one-fitting : nat_lt j.limit (j.length + 9 + length body) ≡ false → fitting js (w ∷ []) ≡ w ∷ []
   one-fitting is = fitting-one ∙ ap (λ (x : Option Full). unless x (w ∷ [])) (past false is)
 
-  fitting-moments : nat_lt j.limit (j.length + 9 + length body) ≡ false → Touches j.area (AddsOne j body o) o n → (lists : Lists) → AreKept js lists o → Moments (IsPrefix lists (fitting js (w ∷ [])) o) o n
-  fitting-moments is adds lists kept = subst (λ (ws : List Write). Moments (IsPrefix lists ws o) o n) (sym (one-fitting is)) (one-moments adds lists kept)
+  fitting-moments : nat_lt j.limit (j.length + 9 + length body) ≡ false → ChangesOnly j.area (AddsOne j body o) o n → (lists : Lists) → AreKept js lists o → AtEveryMoment (LeavesPrefix lists (fitting js (w ∷ [])) o) o n
+  fitting-moments is adds lists kept = subst (λ (ws : List Write). AtEveryMoment (LeavesPrefix lists ws o) o n) (sym (one-fitting is)) (one-moments adds lists kept)
 
   does-fits : (result : Result Unit AppendFault) → nat_lt j.limit (j.length + 9 + length body) ≡ false
       → OnOk result ((bodies : List (List ℕ)) → Keeps j bodies o → Keeps k (bodies ++ body ∷ []) n)
-      → Touches j.area (AddsOne j body o) o n
+      → ChangesOnly j.area (AddsOne j body o) o n
       → OnOk result (IsOpen k n)
       → OnOk result (k ≡ grown j (length body))
       → IfErr result (λ fault. fault ≡ appends.Device)
-      → (result ≡ Err appends.Device → Rose o n)
+      → (result ≡ Err appends.Device → FaultCounted o n)
       → Does js (with_journal k js) (w ∷ []) (result_err result) o n
   does-fits (Ok x) is more adds gate grew room device = record {
     told = adds.told;
@@ -154,7 +154,7 @@ module _ (js : Journals) (j k : Extent) (body : List ℕ) (o n : Outside) (ready
   -- it does not
 
   does-full : (result : Result Unit AppendFault) → nat_lt j.limit (j.length + 9 + length body) ≡ true → n ≡ o
-      → Touches j.area (AddsOne j body o) o n
+      → ChangesOnly j.area (AddsOne j body o) o n
       → OnErr result (k ≡ j)
       → result ≡ Err (appends.Full (full_now j body))
       → Does js (with_journal k js) (w ∷ []) (result_err result) o n
@@ -166,7 +166,7 @@ module _ (js : Journals) (j k : Extent) (body : List ℕ) (o n : Outside) (ready
       record {
         told = adds.told;
         faults = adds.faults;
-        images = λ lists all. subst (λ (m : Outside). Moments (IsPrefix lists (fitting js (w ∷ [])) o) o m) (sym still) (moments_none (IsPrefix lists (fitting js (w ∷ [])) o) o);
+        images = λ lists all. subst (λ (m : Outside). AtEveryMoment (LeavesPrefix lists (fitting js (w ∷ [])) o) o m) (sym still) (moments_none (LeavesPrefix lists (fitting js (w ∷ [])) o) o);
         fits = λ f. absurd cc;
         grew = λ f. absurd cc;
         done = λ f. absurd cc;
@@ -182,14 +182,14 @@ module _ (js : Journals) (j k : Extent) (body : List ℕ) (o n : Outside) (ready
 
   pub does-one : (result : Result Unit AppendFault)
       → OnOk result ((bodies : List (List ℕ)) → Keeps j bodies o → Keeps k (bodies ++ body ∷ []) n)
-      → Touches j.area (AddsOne j body o) o n
+      → ChangesOnly j.area (AddsOne j body o) o n
       → OnOk result (IsOpen k n)
       → OnOk result (k ≡ grown j (length body))
       → OnErr result (k ≡ j)
       → ((j.limit < j.length + 9 + length body) ↔ (result ≡ Err (appends.Full (full_now j body))))
       → (j.length + 9 + length body ≤ j.limit → IfErr result (λ fault. fault ≡ appends.Device))
       → (j.limit < j.length + 9 + length body → n ≡ o)
-      → (result ≡ Err appends.Device → Rose o n)
+      → (result ≡ Err appends.Device → FaultCounted o n)
       → Does js (with_journal k js) (w ∷ []) (result_err result) o n
   does-one result more adds gate grew kept full room unwritten device = pick (nat_lt j.limit (j.length + 9 + length body)) refl
     where
@@ -200,14 +200,14 @@ module _ (js : Journals) (j k : Extent) (body : List ℕ) (o n : Outside) (ready
 -- the same, whatever the other journals are
 pub alone-one : (j k : Extent) (body : List ℕ) (result : Result Unit AppendFault) (o n : Outside)
     → OnOk result ((bodies : List (List ℕ)) → Keeps j bodies o → Keeps k (bodies ++ body ∷ []) n)
-    → Touches j.area (AddsOne j body o) o n
+    → ChangesOnly j.area (AddsOne j body o) o n
     → OnOk result (IsOpen k n)
     → OnOk result (k ≡ grown j (length body))
     → OnErr result (k ≡ j)
     → ((j.limit < j.length + 9 + length body) ↔ (result ≡ Err (appends.Full (full_now j body))))
     → (j.length + 9 + length body ≤ j.limit → IfErr result (λ fault. fault ≡ appends.Device))
     → (j.limit < j.length + 9 + length body → n ≡ o)
-    → (result ≡ Err appends.Device → Rose o n)
+    → (result ≡ Err appends.Device → FaultCounted o n)
     → DoesAlone j k (write_of j.area body None ∷ []) (result_err result) o n
 alone-one j k body result o n more adds gate grew kept full room unwritten device = record {
   area = stays result grew kept;
@@ -238,7 +238,7 @@ pub does-exhausted : (js : Journals) (w : Write) (f : Full) (o : Outside) → w.
 does-exhausted js w f o is = record {
   told = refl;
   faults = omega arith;
-  images = λ lists kept. moments_none (IsPrefix lists (fitting js (w ∷ [])) o) o;
+  images = λ lists kept. moments_none (LeavesPrefix lists (fitting js (w ∷ [])) o) o;
   fits = λ e. absurd cc;
   grew = λ e. absurd cc;
   done = λ e. absurd cc;

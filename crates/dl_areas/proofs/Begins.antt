@@ -1,13 +1,13 @@
 -- An opening of five areas that then writes records.
 use Rattle.std.proofs.Common.{◌≡◌, inl, inr, ℕ, List, refl, sym, ◌∙◌, ap, subst, Option, Some, None}
 use Rattle.dl_base.proofs.Moments.{moments_then, moments_more}
-use Rattle.dl_base.specs.Outside.{Outside, Moments}
+use Rattle.dl_base.specs.Outside.{Outside, AtEveryMoment}
 use Rattle.dl_base.specs.declared.fault.AppendFault.{AppendFault}
 use Rattle.dl_base.specs.declared.fault.AppendFault.TheVariants as appends
 use Rattle.dl_base.specs.declared.fault.Full.{Full}
 use Rattle.dl_areas.specs.Lists.{Lists, Journals, Write, all_grown, AreKept}
 use Rattle.dl_areas.specs.Opening.{AreOpened, AreRead, IsInOpening, IsInBegin, IsBegun, journals_with}
-use Rattle.dl_areas.specs.Writing.{IsPrefix, Does, fitting, full_in}
+use Rattle.dl_areas.specs.Writing.{LeavesPrefix, Does, fitting, full_in}
 use Rattle.dl_areas.proofs.Opens.{opened-ready, opened-kept, opened-journals, opened-lists}
 
 module _ (limit : ℕ) (js ks : Journals) (lists : Lists) (ws : List Write) (o m n : Outside) (all : AreOpened 5 limit js lists o m) where
@@ -21,10 +21,10 @@ module _ (limit : ℕ) (js ks : Journals) (lists : Lists) (ws : List Write) (o m
     same-full : full_in js ws ≡ full_in (journals_with limit read) ws
     same-full = ap (λ (j : Journals). full_in j ws) same-journals
 
-    pub begin-images : (fault : Option AppendFault) → Does js ks ws fault m n → Moments (IsInBegin limit read ws o) o n
+    pub begin-images : (fault : Option AppendFault) → Does js ks ws fault m n → AtEveryMoment (IsInBegin limit read ws o) o n
     begin-images fault does = moments_then (IsInBegin limit read ws o) o m n
         (moments_more (IsInOpening o) (IsInBegin limit read ws o) o m (λ p x. inl x) all.opens.moments)
-        (moments_more (IsPrefix read (fitting js ws) m) (IsInBegin limit read ws o) m n
+        (moments_more (LeavesPrefix read (fitting js ws) m) (IsInBegin limit read ws o) m n
         (λ p f. inr (record {
           told = sym all.opens.told ∙ f.told;
           prefix = f.prefix;

@@ -2,14 +2,14 @@
 use Rattle.std.proofs.Common.{◌≡◌, inl, inr, ⊎_elim, ◌≤◌, List, [], ◌++◌, refl, sym, ◌∙◌, ap, subst, arith, Option, Some, None}
 use Rattle.std.proofs.lemmas.List.{append_assoc}
 use Rattle.dl_base.proofs.Moments.{moments_none, moments_then, moments_more}
-use Rattle.dl_base.specs.Outside.{Outside, Pair, Rose}
+use Rattle.dl_base.specs.Outside.{Outside, CrashState, FaultCounted}
 use Rattle.dl_base.specs.declared.fault.AppendFault.{AppendFault}
 use Rattle.dl_areas.specs.Lists.{Lists, Journals, Write, puts, all_grown, AreKept, HasLists}
-use Rattle.dl_areas.specs.Writing.{full_in, fitting, IsPrefix, Does, Doing}
+use Rattle.dl_areas.specs.Writing.{full_in, fitting, LeavesPrefix, Does, Doing}
 use Rattle.dl_areas.proofs.Fitting.{puts-then, grown-then, full-then, fitting-then, full-stop, fitting-stop, fitting-front}
 
 -- a prefix of the first is one of the whole
-pub prefix-more : (lists : Lists) (ws rest all : List Write) (o : Outside) (p : Pair) → ws ++ rest ≡ all → IsPrefix lists ws o p → IsPrefix lists all o p
+pub prefix-more : (lists : Lists) (ws rest all : List Write) (o : Outside) (p : CrashState) → ws ++ rest ≡ all → LeavesPrefix lists ws o p → LeavesPrefix lists all o p
 prefix-more lists ws rest all o p is f = record {
   told = f.told;
   prefix = f.prefix;
@@ -19,7 +19,7 @@ prefix-more lists ws rest all o p is f = record {
 }
 
 -- the first, and a prefix of the others
-pub prefix-behind : (lists : Lists) (ws vs : List Write) (o m : Outside) (p : Pair) → m.told ≡ o.told → IsPrefix (puts ws lists) vs m p → IsPrefix lists (ws ++ vs) o p
+pub prefix-behind : (lists : Lists) (ws vs : List Write) (o m : Outside) (p : CrashState) → m.told ≡ o.told → LeavesPrefix (puts ws lists) vs m p → LeavesPrefix lists (ws ++ vs) o p
 prefix-behind lists ws vs o m p told f = record {
   told = sym told ∙ f.told;
   prefix = ws ++ f.prefix;
@@ -37,7 +37,7 @@ pub does-none : (js : Journals) (o : Outside) → Does js js [] None o o
 does-none js o = record {
   told = refl;
   faults = omega arith;
-  images = λ lists kept. moments_none (IsPrefix lists (fitting js []) o) o;
+  images = λ lists kept. moments_none (LeavesPrefix lists (fitting js []) o) o;
   fits = λ is. none-full js;
   grew = λ is. refl;
   done = λ is lists kept. kept;
@@ -57,11 +57,11 @@ does-then js ks ls ws vs fault o m n first second =
     record {
       told = second.told ∙ first.told;
       faults = omega (arith, first.faults, second.faults);
-      images = λ lists kept. moments_then (IsPrefix lists (fitting js (ws ++ vs)) o) o m n
-          (moments_more (IsPrefix lists (fitting js ws) o) (IsPrefix lists (fitting js (ws ++ vs)) o) o m
+      images = λ lists kept. moments_then (LeavesPrefix lists (fitting js (ws ++ vs)) o) o m n
+          (moments_more (LeavesPrefix lists (fitting js ws) o) (LeavesPrefix lists (fitting js (ws ++ vs)) o) o m
           (λ p f. prefix-more lists (fitting js ws) (fitting-front ws vs js).0 (fitting js (ws ++ vs)) o p (fitting-front ws vs js).1 f) (first.images lists kept))
-          (moments_more (IsPrefix (puts ws lists) (fitting ks vs) m) (IsPrefix lists (fitting js (ws ++ vs)) o) m n
-          (λ p f. subst (λ (l : List Write). IsPrefix lists l o p) parts (prefix-behind lists ws (fitting ks vs) o m p first.told f)) (second.images (puts ws lists) (first.done refl lists kept)));
+          (moments_more (LeavesPrefix (puts ws lists) (fitting ks vs) m) (LeavesPrefix lists (fitting js (ws ++ vs)) o) m n
+          (λ p f. subst (λ (l : List Write). LeavesPrefix lists l o p) parts (prefix-behind lists ws (fitting ks vs) o m p first.told f)) (second.images (puts ws lists) (first.done refl lists kept)));
       fits = λ is. full ∙ second.fits is;
       grew = λ is. second.grew is ∙ ap (λ (k : Journals). all_grown vs k) grew ∙ sym (grown-then ws vs js);
       done = λ is lists kept. subst (λ (l : Lists). AreKept ls l n) (sym (puts-then ws vs lists)) (second.done is (puts ws lists) (first.done refl lists kept));
@@ -71,7 +71,7 @@ does-then js ks ls ws vs fault o m n first second =
       device = λ is. risen o m n first.faults (second.device is);
     }
   where
-    risen : (o m n : Outside) → o.faults ≤ m.faults → Rose m n → Rose o n
+    risen : (o m n : Outside) → o.faults ≤ m.faults → FaultCounted m n → FaultCounted o n
     risen o m n le r = ⊎_elim (λ lt. inl (omega (arith, le, lt))) (λ last. inr last) r
 
 -- the first of some records met a fault: so did all
@@ -79,7 +79,7 @@ pub does-stop : (js ks : Journals) (ws vs : List Write) (fault : AppendFault) (o
 does-stop js ks ws vs fault o n d = record {
   told = d.told;
   faults = d.faults;
-  images = λ lists kept. moments_more (IsPrefix lists (fitting js ws) o) (IsPrefix lists (fitting js (ws ++ vs)) o) o n
+  images = λ lists kept. moments_more (LeavesPrefix lists (fitting js ws) o) (LeavesPrefix lists (fitting js (ws ++ vs)) o) o n
       (λ p f. prefix-more lists (fitting js ws) (fitting-front ws vs js).0 (fitting js (ws ++ vs)) o p (fitting-front ws vs js).1 f) (d.images lists kept);
   fits = λ is. absurd cc;
   grew = λ is. absurd cc;

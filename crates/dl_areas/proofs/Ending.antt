@@ -3,14 +3,14 @@ use Rattle.std.proofs.Common.{◌≡◌, List, [], ◌∷◌, ◌++◌, refl, sy
 use Rattle.std.specs.Option.{option_map}
 use Rattle.dl_base.proofs.Moments.{moments_more}
 use Rattle.dl_base.specs.Faults.{step_fault}
-use Rattle.dl_base.specs.Outside.{Outside, Moments}
+use Rattle.dl_base.specs.Outside.{Outside, AtEveryMoment}
 use Rattle.dl_base.specs.declared.fault.AppendFault.{AppendFault}
 use Rattle.dl_base.specs.declared.fault.AppendFault.TheVariants as appends
 use Rattle.dl_base.specs.declared.fault.StepFault.{StepFault}
 use Rattle.dl_base.specs.declared.fault.StepFault.TheVariants as steps
 use Rattle.dl_journal.specs.Extent.{Extent}
 use Rattle.dl_areas.specs.Lists.{Lists, Journals, Write, with_journal, AreKept}
-use Rattle.dl_areas.specs.Writing.{IsPrefix, Does, DoesAlone, Ends, EndsAlone, fitting}
+use Rattle.dl_areas.specs.Writing.{LeavesPrefix, Does, DoesAlone, Ends, EndsAlone, fitting}
 use Rattle.dl_areas.proofs.Doing.{does-none, prefix-more}
 use Rattle.dl_areas.proofs.Fitting.{fitting-rest}
 use Rattle.dl_areas.proofs.Places.{with-same}
@@ -21,18 +21,18 @@ ends-written js ks ws (Some appends.Device) o n d = d
 ends-written js ks ws (Some (appends.Full f)) o n d = d
 
 -- whatever the end, at each moment a prefix of the records is there
-pub ends-images : (js ks : Journals) (ws : List Write) (fault : Option StepFault) (o n : Outside) → Ends js ks ws fault o n → (lists : Lists) → AreKept js lists o → Moments (IsPrefix lists ws o) o n
+pub ends-images : (js ks : Journals) (ws : List Write) (fault : Option StepFault) (o n : Outside) → Ends js ks ws fault o n → (lists : Lists) → AreKept js lists o → AtEveryMoment (LeavesPrefix lists ws o) o n
 ends-images js ks ws fault o n ends lists kept = at fault ends
   where
     nil : (l : List Write) → l ++ [] ≡ l
     nil [] = refl
     nil (x ∷ l) = ap (λ (r : List Write). x ∷ r) (nil l)
 
-    from : (vs rest : List Write) (f : Option AppendFault) → vs ++ rest ≡ ws → Does js ks vs f o n → Moments (IsPrefix lists ws o) o n
-    from vs rest f is d = moments_more (IsPrefix lists (fitting js vs) o) (IsPrefix lists ws o) o n
+    from : (vs rest : List Write) (f : Option AppendFault) → vs ++ rest ≡ ws → Does js ks vs f o n → AtEveryMoment (LeavesPrefix lists ws o) o n
+    from vs rest f is d = moments_more (LeavesPrefix lists (fitting js vs) o) (LeavesPrefix lists ws o) o n
         (λ p x. prefix-more lists vs rest ws o p is (prefix-more lists (fitting js vs) (fitting-rest vs js).0 vs o p (fitting-rest vs js).1 x)) (d.images lists kept)
 
-    at : (fault : Option StepFault) → Ends js ks ws fault o n → Moments (IsPrefix lists ws o) o n
+    at : (fault : Option StepFault) → Ends js ks ws fault o n → AtEveryMoment (LeavesPrefix lists ws o) o n
     at None d = from ws [] None (nil ws) d
     at (Some steps.Device) d = from ws [] (Some appends.Device) (nil ws) d
     at (Some (steps.Full f)) d = from ws [] (Some (appends.Full f)) (nil ws) d

@@ -3,7 +3,7 @@ use Rattle.std.proofs.Common.{◌≡◌, ◌≢◌, inl, inr, ⊎_elim, ◌+◌,
 use Rattle.dl_base.proofs.Areas.{same_area, same_number}
 use Rattle.dl_base.proofs.Moments.{moments_none, moments_then, moments_touch}
 use Rattle.dl_base.specs.Areas.{area_number}
-use Rattle.dl_base.specs.Outside.{Outside, Pair, During, IsLawful}
+use Rattle.dl_base.specs.Outside.{Outside, CrashState, During, IsLawful}
 use Rattle.dl_base.specs.declared.area.Area.{Area}
 use Rattle.dl_base.specs.declared.area.Area.TheVariants.{Rows, Links, Files, Archive, Backups}
 use Rattle.dl_journal.specs.Extent.{Extent}
@@ -43,7 +43,7 @@ opens-more k a o m n le so_far one = record {
     here c opening = ⊎_elim (λ was. so_far.images a c was)
         (λ (list : (told : List ℕ) × (m.reads a ≡ Some told) × (records c ≡ records told)). inr (list.0, sym (so_far.still a le) ∙ list.1, list.2)) opening
 
-    during : (p : Pair) → During a (IsOpening a m) m p → IsInOpening o p
+    during : (p : CrashState) → During a (IsOpening a m) m p → IsInOpening o p
     during p d = record {
       told = sym so_far.told ∙ d.told;
       areas = λ b. ⊎_elim
@@ -160,7 +160,7 @@ module _ (limit : ℕ) (js : Journals) (lists : Lists) (o m1 m2 m3 m4 m5 : Outsi
       (opened-more Links limit js lists o m1 m2 (opened-more Rows limit js lists o o m1 (opened-none limit js lists o) r jr) l jl) f jf) a ja) b jb
 
 -- at a moment of an opening the areas have the lists of some images of the begin
-pub opening-mixed : (o : Outside) → IsLawful o → (p : Pair) → IsInOpening o p → (q : Area → List ℕ) × ((a : Area) → o.image a (q a)) × ((a : Area) → records (q a) ≡ records (p.areas a))
+pub opening-mixed : (o : Outside) → IsLawful o → (p : CrashState) → IsInOpening o p → (q : Area → List ℕ) × ((a : Area) → o.image a (q a)) × ((a : Area) → records (q a) ≡ records (p.areas a))
 opening-mixed o lawful p is = (λ a. (entry a).0, λ a. (entry a).1, λ a. (entry a).2)
   where
     entry : (a : Area) → (d : List ℕ) × o.image a d × (records d ≡ records (p.areas a))

@@ -1,7 +1,7 @@
 -- Telling leaves areas and journals as they are.
 use Rattle.std.proofs.Common.{ℕ, List, sym, ◌∙◌, subst}
 use Rattle.dl_base.proofs.Moments.{moments_say}
-use Rattle.dl_base.specs.Outside.{Outside, Moments, Says}
+use Rattle.dl_base.specs.Outside.{Outside, AtEveryMoment, Says}
 use Rattle.dl_base.specs.declared.area.Area.{Area}
 use Rattle.dl_areas.specs.Lists.{Lists, Journals, AreReady, AreKept}
 use Rattle.dl_areas.specs.Writing.{IsTelling}
@@ -13,7 +13,7 @@ module _ (js : Journals) (bytes : List ℕ) (o n : Outside) (says : Says bytes o
   pub told-kept : (lists : Lists) → AreKept js lists o → AreKept js lists n
   told-kept lists kept = λ a. record { length = (kept a).length; fits = (kept a).fits; images = λ c left. (kept a).images c (says.images (js a).area c left) }
 
-  pub told-moments : (lists : Lists) → AreReady js o → AreKept js lists o → Moments (IsTelling lists bytes o) o n
+  pub told-moments : (lists : Lists) → AreReady js o → AreKept js lists o → AtEveryMoment (IsTelling lists bytes o) o n
   told-moments lists ready kept = moments_say bytes (IsTelling lists bytes o) o n
       (λ p told images. record {
         told = told;

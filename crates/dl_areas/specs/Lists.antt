@@ -1,7 +1,7 @@
 -- The five areas of one bench: their journals, the lists that they have, and the records that a call writes into them.
 use Rattle.std.specs.Prelude.{◌≡◌, ℕ, List, [], ◌∷◌, ◌++◌, length, if◌then◌else◌, Option}
 use Rattle.dl_base.specs.Areas.{is_area}
-use Rattle.dl_base.specs.Outside.{Outside, Pair}
+use Rattle.dl_base.specs.Outside.{Outside, CrashState}
 use Rattle.dl_base.specs.declared.area.Area.{Area}
 use Rattle.dl_base.specs.declared.area.Area.TheVariants.{Rows, Links, Files, Archive, Backups}
 use Rattle.dl_base.specs.declared.fault.Full.{Full}
@@ -64,5 +64,5 @@ abbrev pub AreKept : Journals → Lists → Outside → Type 0
 AreKept js lists o = (a : Area) → Keeps (js a) (lists a) o
 
 -- a crash left these lists
-abbrev pub HasLists : Lists → Pair → Type 0
+abbrev pub HasLists : Lists → CrashState → Type 0
 HasLists lists p = (a : Area) → IsAtRest (lists a) (p.areas a)

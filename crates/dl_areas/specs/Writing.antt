@@ -1,7 +1,7 @@
 -- What a call that writes records does, at each moment of it and however it ends.
 use Rattle.std.specs.Prelude.{◌≡◌, ◌≢◌, ℕ, ◌+◌, ◌-◌, ◌≤◌, ◌^◌, min, List, [], ◌∷◌, ◌++◌, length, nat_lt, if◌then◌else◌, Option, Some, None}
 use Rattle.std.specs.Option.{option_or}
-use Rattle.dl_base.specs.Outside.{Outside, Pair, Moments, TellsFront, Rose}
+use Rattle.dl_base.specs.Outside.{Outside, CrashState, AtEveryMoment, TellsFront, FaultCounted}
 use Rattle.dl_base.specs.declared.area.Area.{Area}
 use Rattle.dl_base.specs.declared.fault.AppendFault.{AppendFault}
 use Rattle.dl_base.specs.declared.fault.AppendFault.TheVariants as appends
@@ -41,7 +41,7 @@ fitting js [] = []
 fitting js (w ∷ ws) = unless (refused js w) (w ∷ fitting (grown_by w js) ws)
 
 -- A crash left the lists with a prefix of these records, and nothing more was told.
-pub record IsPrefix (lists : Lists) (ws : List Write) (o : Outside) (p : Pair) : Type 0 where
+pub record LeavesPrefix (lists : Lists) (ws : List Write) (o : Outside) (p : CrashState) : Type 0 where
   pub told : o.told ≡ Some p.told
   pub prefix : List Write
   pub rest : List Write
@@ -49,7 +49,7 @@ pub record IsPrefix (lists : Lists) (ws : List Write) (o : Outside) (p : Pair) :
   pub has : HasLists (puts prefix lists) p
 
 -- A moment while bytes are told: each area has its list, and a front of the bytes is told.
-pub record IsTelling (lists : Lists) (bytes : List ℕ) (o : Outside) (p : Pair) : Type 0 where
+pub record IsTelling (lists : Lists) (bytes : List ℕ) (o : Outside) (p : CrashState) : Type 0 where
   pub told : TellsFront bytes o.told p.told
   pub has : HasLists lists p
 
@@ -59,7 +59,7 @@ pub record Does (js ks : Journals) (ws : List Write) (fault : Option AppendFault
   pub told : n.told ≡ o.told
   pub faults : o.faults ≤ n.faults
   -- at each moment a prefix of the records that fit is there, and nothing of the one that does not
-  pub images : (lists : Lists) → AreKept js lists o → Moments (IsPrefix lists (fitting js ws) o) o n
+  pub images : (lists : Lists) → AreKept js lists o → AtEveryMoment (LeavesPrefix lists (fitting js ws) o) o n
   -- with no fault all fit, and all are there
   pub fits : fault ≡ None → full_in js ws ≡ None
   pub grew : fault ≡ None → ks ≡ all_grown ws js
@@ -69,7 +69,7 @@ pub record Does (js ks : Journals) (ws : List Write) (fault : Option AppendFault
   pub full : (f : Full) → fault ≡ Some (appends.Full f) → full_in js ws ≡ Some f
   pub before : (f : Full) → fault ≡ Some (appends.Full f) → (lists : Lists) → AreKept js lists o → AreKept ks (puts (fitting js ws) lists) n
   -- the device fails only where its count of faults rose
-  pub device : fault ≡ Some appends.Device → Rose o n
+  pub device : fault ≡ Some appends.Device → FaultCounted o n
 
 -- A loop that writes all of these records has written those that are not left.
 pub record Doing (js ks : Journals) (all left : List Write) (o n : Outside) : Type 0 where

@@ -5,7 +5,7 @@ ghost use Rattle.std.specs.Option.{option_map};
 ghost use Rattle.std.specs.Result.{result_err};
 ghost use Rattle.dl_base.specs.Areas.{area_number};
 ghost use Rattle.dl_base.specs.Faults.{step_fault};
-ghost use Rattle.dl_base.specs.Outside.{Pair, Now, Touches, Says, Moments, Rose};
+ghost use Rattle.dl_base.specs.Outside.{CrashState, Now, ChangesOnly, Says, AtEveryMoment, FaultCounted};
 ghost use Rattle.dl_base.specs.declared.area.Area.{Area};
 ghost use Rattle.dl_base.specs.declared.area.Area.TheVariants as areas;
 ghost use Rattle.dl_base.specs.declared.fault.AppendFault.{AppendFault};
@@ -19,7 +19,7 @@ ghost use Rattle.dl_journal.specs.Open.{AddsOne, IsOpen, Keeps, grown};
 ghost use Rattle.dl_journal.specs.Records.{records};
 ghost use Rattle.dl_areas.specs.Lists.{AreKept, AreReady, Journals, Lists, Write, all_grown, by_area, puts, with_journal, write_of};
 ghost use Rattle.dl_areas.specs.Opening.{AreOpened, AreRead, IsBegun, IsInBegin, IsInOpening, IsOpened, Opens, OpensOne, journals_with};
-ghost use Rattle.dl_areas.specs.Writing.{Does, DoesAlone, Doing, Ends, EndsAlone, IsPrefix, IsTelling, fitting, full_in};
+ghost use Rattle.dl_areas.specs.Writing.{Does, DoesAlone, Doing, Ends, EndsAlone, LeavesPrefix, IsTelling, fitting, full_in};
 
 use dl_base::Bench;
 
@@ -70,14 +70,14 @@ pub fn a_loop_writes_its_records<B: Bench>()
 pub fn an_append_writes_one_record<B: Bench>()
     ensures one { (j k : Extent) (body : List ℕ) (result : Result Unit AppendFault) (o n : B)
         → OnOk result ((bodies : List (List ℕ)) → Keeps j bodies (B.outside o) → Keeps k (bodies ++ body ∷ []) (B.outside n))
-        → Touches j.area (AddsOne j body (B.outside o)) (B.outside o) (B.outside n)
+        → ChangesOnly j.area (AddsOne j body (B.outside o)) (B.outside o) (B.outside n)
         → OnOk result (IsOpen k (B.outside n))
         → OnOk result (k ≡ grown j (length body))
         → OnErr result (k ≡ j)
         → ((j.limit < j.length + 9 + length body) ↔ (result ≡ Err (appends.Full (fulls.Area j.area (min (j.length + 9 + length body) (2 ^ 64 - 1))))))
         → (j.length + 9 + length body ≤ j.limit → IfErr result (λ fault. fault ≡ appends.Device))
         → (j.limit < j.length + 9 + length body → n ≡ o)
-        → (result ≡ Err appends.Device → Rose (B.outside o) (B.outside n))
+        → (result ≡ Err appends.Device → FaultCounted (B.outside o) (B.outside n))
         → DoesAlone j k (write_of j.area body None ∷ []) (result_err result) (B.outside o) (B.outside n) }
     ensures exhausted { (j : Extent) (w : Write) (f : Full) (o : B) → w.exhausted ≡ Some f → DoesAlone j j (w ∷ []) (Some (appends.Full f)) (B.outside o) (B.outside o) }
     ensures none { (j : Extent) (o : B) → DoesAlone j j [] None (B.outside o) (B.outside o) }
@@ -92,7 +92,7 @@ pub fn steps_end_so<B: Bench>()
     ensures written { (js ks : Journals) (ws : List Write) (fault : Option AppendFault) (o n : B) → Does js ks ws fault (B.outside o) (B.outside n) → Ends js ks ws (option_map step_fault fault) (B.outside o) (B.outside n) }
     ensures memory { (js : Journals) (ws : List Write) (o : B) → Ends js js ws (Some steps.Memory) (B.outside o) (B.outside o) }
     ensures images { (js ks : Journals) (ws : List Write) (fault : Option StepFault) (o n : B) → Ends js ks ws fault (B.outside o) (B.outside n)
-        → (lists : Lists) → AreKept js lists (B.outside o) → Moments (IsPrefix lists ws (B.outside o)) (B.outside o) (B.outside n) }
+        → (lists : Lists) → AreKept js lists (B.outside o) → AtEveryMoment (LeavesPrefix lists ws (B.outside o)) (B.outside o) (B.outside n) }
     ensures told { (js ks : Journals) (ws : List Write) (fault : Option StepFault) (o n : B) → Ends js ks ws fault (B.outside o) (B.outside n) → (B.outside n).told ≡ (B.outside o).told }
     ensures alone { (j k : Extent) (ws : List Write) (fault : Option AppendFault) (o n : B) → DoesAlone j k ws fault (B.outside o) (B.outside n) → EndsAlone j k ws (option_map step_fault fault) (B.outside o) (B.outside n) }
     ensures alone_memory { (j : Extent) (ws : List Write) (o : B) → EndsAlone j j ws (Some steps.Memory) (B.outside o) (B.outside o) }
@@ -101,10 +101,10 @@ pub fn steps_end_so<B: Bench>()
 /// Whatever a crash leaves since the begin of a call that writes, or behind its end, are the lists with a prefix of its records: also
 /// where the device failed.
 pub fn a_crash_finds_a_prefix<B: Bench>()
-    ensures since { (js : Journals) (lists : Lists) (ws : List Write) (o n : B) → AreReady js (B.outside o) → AreKept js lists (B.outside o) → Moments (IsPrefix lists ws (B.outside o)) (B.outside o) (B.outside n)
-        → (p : Pair) → (B.outside n).since (B.outside o).moment p → IsPrefix lists ws (B.outside o) p }
-    ensures now { (js : Journals) (lists : Lists) (ws : List Write) (o n : B) → AreReady js (B.outside o) → AreKept js lists (B.outside o) → Moments (IsPrefix lists ws (B.outside o)) (B.outside o) (B.outside n)
-        → (p : Pair) → Now (B.outside n) p → IsPrefix lists ws (B.outside o) p }
+    ensures since { (js : Journals) (lists : Lists) (ws : List Write) (o n : B) → AreReady js (B.outside o) → AreKept js lists (B.outside o) → AtEveryMoment (LeavesPrefix lists ws (B.outside o)) (B.outside o) (B.outside n)
+        → (p : CrashState) → (B.outside n).since (B.outside o).moment p → LeavesPrefix lists ws (B.outside o) p }
+    ensures now { (js : Journals) (lists : Lists) (ws : List Write) (o n : B) → AreReady js (B.outside o) → AreKept js lists (B.outside o) → AtEveryMoment (LeavesPrefix lists ws (B.outside o)) (B.outside o) (B.outside n)
+        → (p : CrashState) → Now (B.outside n) p → LeavesPrefix lists ws (B.outside o) p }
 {}
 
 /// Telling leaves journals and lists as they are: at each moment of it each area has its list, and a front of the bytes is told.
@@ -112,7 +112,7 @@ pub fn telling_leaves_the_areas<B: Bench>()
     ensures ready { (js : Journals) (bytes : List ℕ) (o n : B) → Says bytes (B.outside o) (B.outside n) → AreReady js (B.outside o) → AreReady js (B.outside n) }
     ensures kept { (js : Journals) (bytes : List ℕ) (o n : B) → Says bytes (B.outside o) (B.outside n) → (lists : Lists) → AreKept js lists (B.outside o) → AreKept js lists (B.outside n) }
     ensures images { (js : Journals) (bytes : List ℕ) (o n : B) → Says bytes (B.outside o) (B.outside n) → (lists : Lists) → AreReady js (B.outside o) → AreKept js lists (B.outside o)
-        → Moments (IsTelling lists bytes (B.outside o)) (B.outside o) (B.outside n) }
+        → AtEveryMoment (IsTelling lists bytes (B.outside o)) (B.outside o) (B.outside n) }
 {}
 
 /// Areas are opened in the order of their numbers. At each moment before a record is written each area has an image of the begin, or
@@ -133,7 +133,7 @@ pub fn areas_are_opened_in_order<B: Bench>()
 
 /// At a moment of an opening before its records, the areas have the lists of some images of the begin.
 pub fn an_opening_finds_the_lists_of_its_begin<B: Bench>()
-    ensures { (o : B) (p : Pair) → IsInOpening (B.outside o) p → (q : Area → List ℕ) × ((a : Area) → (B.outside o).image a (q a)) × ((a : Area) → records (q a) ≡ records (p.areas a)) }
+    ensures { (o : B) (p : CrashState) → IsInOpening (B.outside o) p → (q : Area → List ℕ) × ((a : Area) → (B.outside o).image a (q a)) × ((a : Area) → records (q a) ≡ records (p.areas a)) }
 {}
 
 /// An area that is open stays so while others are opened. Once all five are, their journals are ready, and what a crash leaves are
@@ -157,7 +157,7 @@ pub fn open_areas_have_their_lists<B: Bench>()
 /// An opening of all five areas that then writes records: what is there at each moment of it, at its end, and where it is full.
 pub fn an_opening_writes_its_records<B: Bench>()
     ensures images { (limit : ℕ) (js ks : Journals) (lists read : Lists) (ws : List Write) (fault : Option AppendFault) (o m n : B) → AreOpened 5 limit js lists (B.outside o) (B.outside m)
-        → Does js ks ws fault (B.outside m) (B.outside n) → AreRead read (B.outside o) → Moments (IsInBegin limit read ws (B.outside o)) (B.outside o) (B.outside n) }
+        → Does js ks ws fault (B.outside m) (B.outside n) → AreRead read (B.outside o) → AtEveryMoment (IsInBegin limit read ws (B.outside o)) (B.outside o) (B.outside n) }
     ensures begun { (limit : ℕ) (js ks : Journals) (lists : Lists) (ws : List Write) (o m n : B) → AreOpened 5 limit js lists (B.outside o) (B.outside m)
         → Does js ks ws None (B.outside m) (B.outside n) → IsBegun limit ks ws (B.outside o) (B.outside n) }
     ensures full { (limit : ℕ) (js ks : Journals) (lists read : Lists) (ws : List Write) (f : Full) (o m n : B) → AreOpened 5 limit js lists (B.outside o) (B.outside m)

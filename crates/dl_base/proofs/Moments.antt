@@ -1,10 +1,10 @@
 -- How calls on a bench follow one another.
 use Rattle.std.proofs.Common.{inl, inr, ⊎_elim, ℕ, List, Result, Ok, Err, OnOk, sym, ◌∙◌, refl, arith}
 use Rattle.dl_base.specs.declared.area.Area.{Area}
-use Rattle.dl_base.specs.Outside.{Outside, Pair, During, Touches, Says, Moments, TellsFront, Now, IsLawful}
+use Rattle.dl_base.specs.Outside.{Outside, CrashState, During, ChangesOnly, Says, AtEveryMoment, TellsFront, Now, IsLawful}
 
 -- no call yet
-pub touches_none : (area : Area) (Q : List ℕ → Type 0) (o : Outside) → ((c : List ℕ) → o.image area c → Q c) → Touches area Q o o
+pub touches_none : (area : Area) (Q : List ℕ → Type 0) (o : Outside) → ((c : List ℕ) → o.image area c → Q c) → ChangesOnly area Q o o
 touches_none area Q o here = record {
   later = omega arith;
   faults = omega arith;
@@ -18,7 +18,7 @@ touches_none area Q o here = record {
 }
 
 -- what is left has R where it has Q
-pub touches_more : (area : Area) (Q R : List ℕ → Type 0) (o n : Outside) → ((c : List ℕ) → Q c → R c) → Touches area Q o n → Touches area R o n
+pub touches_more : (area : Area) (Q R : List ℕ → Type 0) (o n : Outside) → ((c : List ℕ) → Q c → R c) → ChangesOnly area Q o n → ChangesOnly area R o n
 touches_more area Q R o n wider t = record {
   later = t.later;
   faults = t.faults;
@@ -32,7 +32,7 @@ touches_more area Q R o n wider t = record {
 }
 
 -- one call after another
-pub touches_then : (area : Area) (Q : List ℕ → Type 0) (o m n : Outside) → Touches area Q o m → Touches area Q m n → Touches area Q o n
+pub touches_then : (area : Area) (Q : List ℕ → Type 0) (o m n : Outside) → ChangesOnly area Q o m → ChangesOnly area Q m n → ChangesOnly area Q o n
 touches_then area Q o m n first second = record {
   later = omega (arith, first.later, second.later);
   faults = omega (arith, first.faults, second.faults);
@@ -49,10 +49,10 @@ touches_then area Q o m n first second = record {
 }
 
 -- the same for calls on several areas
-pub moments_none : (P : Pair → Type 0) (o : Outside) → Moments P o o
+pub moments_none : (P : CrashState → Type 0) (o : Outside) → AtEveryMoment P o o
 moments_none P o = record { later = omega arith; faults = omega arith; since = λ t p le left. inl left; keeps = λ t p left. left }
 
-pub moments_then : (P : Pair → Type 0) (o m n : Outside) → Moments P o m → Moments P m n → Moments P o n
+pub moments_then : (P : CrashState → Type 0) (o m n : Outside) → AtEveryMoment P o m → AtEveryMoment P m n → AtEveryMoment P o n
 moments_then P o m n first second = record {
   later = omega (arith, first.later, second.later);
   faults = omega (arith, first.faults, second.faults);
@@ -60,7 +60,7 @@ moments_then P o m n first second = record {
   keeps = λ t p left. second.keeps t p (first.keeps t p left);
 }
 
-pub moments_more : (P R : Pair → Type 0) (o n : Outside) → ((p : Pair) → P p → R p) → Moments P o n → Moments R o n
+pub moments_more : (P R : CrashState → Type 0) (o n : Outside) → ((p : CrashState) → P p → R p) → AtEveryMoment P o n → AtEveryMoment R o n
 moments_more P R o n wider m = record {
   later = m.later;
   faults = m.faults;
@@ -68,7 +68,7 @@ moments_more P R o n wider m = record {
   keeps = m.keeps;
 }
 
-pub moments_touch : (area : Area) (Q : List ℕ → Type 0) (P : Pair → Type 0) (o n : Outside) → ((p : Pair) → During area Q o p → P p) → Touches area Q o n → Moments P o n
+pub moments_touch : (area : Area) (Q : List ℕ → Type 0) (P : CrashState → Type 0) (o n : Outside) → ((p : CrashState) → During area Q o p → P p) → ChangesOnly area Q o n → AtEveryMoment P o n
 moments_touch area Q P o n is t = record {
   later = t.later;
   faults = t.faults;
@@ -76,7 +76,7 @@ moments_touch area Q P o n is t = record {
   keeps = t.keeps;
 }
 
-pub moments_say : (bytes : List ℕ) (P : Pair → Type 0) (o n : Outside) → ((p : Pair) → TellsFront bytes o.told p.told → ((a : Area) → o.image a (p.areas a)) → P p) → Says bytes o n → Moments P o n
+pub moments_say : (bytes : List ℕ) (P : CrashState → Type 0) (o n : Outside) → ((p : CrashState) → TellsFront bytes o.told p.told → ((a : Area) → o.image a (p.areas a)) → P p) → Says bytes o n → AtEveryMoment P o n
 moments_say bytes P o n is s = record {
   later = s.later;
   faults = s.faults;
@@ -90,5 +90,5 @@ on_ok (Ok x) P Q f p = f p
 on_ok (Err e) P Q f p = tt
 
 -- of a run as a whole: what a crash at any moment since its begin leaves
-pub since_begin : (P : Pair → Type 0) (o n : Outside) → IsLawful o → Moments P o n → ((p : Pair) → Now o p → P p) → (p : Pair) → n.since o.moment p → P p
+pub since_begin : (P : CrashState → Type 0) (o n : Outside) → IsLawful o → AtEveryMoment P o n → ((p : CrashState) → Now o p → P p) → (p : CrashState) → n.since o.moment p → P p
 since_begin P o n law m first p left = ⊎_elim (λ was. first p (law.only_now p was)) (λ now. now) (m.since o.moment p (omega arith) left)

@@ -1,7 +1,7 @@
 // The storage device: five areas of bytes, and a line of told bytes.
 ghost use Rattle.std.specs.Prelude.{◌≡◌, ◌+◌, ◌≤◌, ◌^◌, ◌++◌, List, ℕ, length, Some, IfOk, OnOk, OnErr};
 ghost use Rattle.std.specs.Option.{ForSome};
-ghost use Rattle.dl_base.specs.Outside.{Outside, Touches, Says, Torn, overwritten, portion, extended, Rose, IsLawful};
+ghost use Rattle.dl_base.specs.Outside.{Outside, ChangesOnly, Says, Torn, overwritten, portion, extended, FaultCounted, IsLawful};
 
 use crate::{Area, Failed};
 
@@ -13,37 +13,37 @@ pub trait Bench {
     fn length(&mut self, area: Area) -> Result<u64, Failed>
         ensures value { IfOk result (λ n. ForSome ((outside self.old).reads area) (λ bytes. n ≡ length bytes)) }
         ensures same { (outside self.new).reads area ≡ (outside self.old).reads area }
-        ensures crash { Touches area ((outside self.old).image area) (outside self.old) (outside self.new) }
-        ensures cause { OnErr result (Rose (outside self.old) (outside self.new)) };
+        ensures crash { ChangesOnly area ((outside self.old).image area) (outside self.old) (outside self.new) }
+        ensures cause { OnErr result (FaultCounted (outside self.old) (outside self.new)) };
 
     /// Fills the buffer with the area's bytes from there on.
     fn read(&mut self, area: Area, at: u64, into: &mut [u8]) -> Result<(), Failed>
         requires { ForSome ((outside self.old).reads area) (λ bytes. at + length into.old ≤ length bytes) }
         ensures value { OnOk result (ForSome ((outside self.old).reads area) (λ bytes. into.new ≡ portion at (length into.old) bytes)) }
         ensures same { (outside self.new).reads area ≡ (outside self.old).reads area }
-        ensures crash { Touches area ((outside self.old).image area) (outside self.old) (outside self.new) }
-        ensures cause { OnErr result (Rose (outside self.old) (outside self.new)) };
+        ensures crash { ChangesOnly area ((outside self.old).image area) (outside self.old) (outside self.new) }
+        ensures cause { OnErr result (FaultCounted (outside self.old) (outside self.new)) };
 
     /// Writes over what is there, and past the end. Until a sync, a crash may leave any bytes in the range.
     fn write(&mut self, area: Area, at: u64, bytes: &[u8]) -> Result<(), Failed>
         requires begins { ForSome ((outside self.old).reads area) (λ old. at ≤ length old) }
         requires ends { at + length bytes.now ≤ 2 ^ 63 }
         ensures written { OnOk result ((outside self.new).reads area ≡ overwritten at bytes.now ((outside self.old).reads area)) }
-        ensures crash { Touches area (Torn at (length bytes.now) ((outside self.old).image area)) (outside self.old) (outside self.new) }
-        ensures cause { OnErr result (Rose (outside self.old) (outside self.new)) };
+        ensures crash { ChangesOnly area (Torn at (length bytes.now) ((outside self.old).image area)) (outside self.old) (outside self.new) }
+        ensures cause { OnErr result (FaultCounted (outside self.old) (outside self.new)) };
 
     /// After it, a crash leaves what a read gives.
     fn sync(&mut self, area: Area) -> Result<(), Failed>
         ensures durable { OnOk result ((c : List ℕ) → (outside self.new).image area c → (outside self.old).reads area ≡ Some c) }
         ensures same { (outside self.new).reads area ≡ (outside self.old).reads area }
-        ensures crash { Touches area ((outside self.old).image area) (outside self.old) (outside self.new) }
-        ensures cause { OnErr result (Rose (outside self.old) (outside self.new)) };
+        ensures crash { ChangesOnly area ((outside self.old).image area) (outside self.old) (outside self.new) }
+        ensures cause { OnErr result (FaultCounted (outside self.old) (outside self.new)) };
 
     /// Tells bytes. At `Failed` some front of them was told.
     fn say(&mut self, bytes: &[u8]) -> Result<(), Failed>
         ensures told { OnOk result ((outside self.new).told ≡ extended bytes.now (outside self.old).told) }
         ensures crash { Says bytes.now (outside self.old) (outside self.new) }
-        ensures cause { OnErr result (Rose (outside self.old) (outside self.new)) };
+        ensures cause { OnErr result (FaultCounted (outside self.old) (outside self.new)) };
 
     /// The device keeps its laws.
     ghost lawful: { (bench : Self) → IsLawful (outside bench) };

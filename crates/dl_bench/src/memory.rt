@@ -1,7 +1,7 @@
 // A bench in memory.
 ghost use Rattle.std.specs.Prelude.{◌≡◌, ◌+◌, ◌≤◌, ◌^◌, ◌++◌, List as Items, ℕ, [], length, is_err, IsErr, IsTrue, IfOk, OnOk, OnErr, IfErr, Some};
 ghost use Rattle.std.specs.Option.{ForSome};
-ghost use Rattle.dl_base.specs.Outside.{Touches, Says, Torn, overwritten, portion, extended, Rose};
+ghost use Rattle.dl_base.specs.Outside.{ChangesOnly, Says, Torn, overwritten, portion, extended, FaultCounted};
 ghost use Rattle.dl_bench.specs.declared.event.Event.TheVariants.{Put, Write, Sync, Say};
 ghost use Rattle.dl_bench.specs.Tallies.{fresh, is_due, faults};
 ghost use Rattle.dl_bench.specs.Traces.{seen, content, told, added, asked, failed, HasFailedSaying, IsCrashed};
@@ -96,8 +96,8 @@ impl Bench for MemoryBench {
     fn length(&mut self, area: Area) -> Result<u64, Failed>
         ensures value { IfOk result (λ n. ForSome ((seen self.old).reads area) (λ bytes. n ≡ length bytes)) }
         ensures same { (seen self.new).reads area ≡ (seen self.old).reads area }
-        ensures crash { Touches area ((seen self.old).image area) (seen self.old) (seen self.new) }
-        ensures cause { OnErr result (Rose (seen self.old) (seen self.new)) }
+        ensures crash { ChangesOnly area ((seen self.old).image area) (seen self.old) (seen self.new) }
+        ensures cause { OnErr result (FaultCounted (seen self.old) (seen self.new)) }
         ensures due { is_err result ≡ is_due self.old.tally Call.Length }
         ensures after { self.new ≡ asked self.old Call.Length }
     {
@@ -111,8 +111,8 @@ impl Bench for MemoryBench {
         requires { ForSome ((seen self.old).reads area) (λ bytes. at + length into.old ≤ length bytes) }
         ensures value { OnOk result (ForSome ((seen self.old).reads area) (λ bytes. into.new ≡ portion at (length into.old) bytes)) }
         ensures same { (seen self.new).reads area ≡ (seen self.old).reads area }
-        ensures crash { Touches area ((seen self.old).image area) (seen self.old) (seen self.new) }
-        ensures cause { OnErr result (Rose (seen self.old) (seen self.new)) }
+        ensures crash { ChangesOnly area ((seen self.old).image area) (seen self.old) (seen self.new) }
+        ensures cause { OnErr result (FaultCounted (seen self.old) (seen self.new)) }
         ensures due { is_err result ≡ is_due self.old.tally Call.Read }
         ensures after { self.new ≡ asked self.old Call.Read }
         ensures untouched { OnErr result (into.new ≡ into.old) }
@@ -129,8 +129,8 @@ impl Bench for MemoryBench {
         requires begins { ForSome ((seen self.old).reads area) (λ old. at ≤ length old) }
         requires ends { at + length bytes.now ≤ 2 ^ 63 }
         ensures written { OnOk result ((seen self.new).reads area ≡ overwritten at bytes.now ((seen self.old).reads area)) }
-        ensures crash { Touches area (Torn at (length bytes.now) ((seen self.old).image area)) (seen self.old) (seen self.new) }
-        ensures cause { OnErr result (Rose (seen self.old) (seen self.new)) }
+        ensures crash { ChangesOnly area (Torn at (length bytes.now) ((seen self.old).image area)) (seen self.old) (seen self.new) }
+        ensures cause { OnErr result (FaultCounted (seen self.old) (seen self.new)) }
         ensures due { IsTrue (is_due self.old.tally Call.Write) → IsErr result }
         ensures ok { OnOk result (self.new ≡ added (asked self.old Call.Write) (Write area at bytes.now)) }
         ensures err { OnErr result (self.new ≡ failed self.old Call.Write) }
@@ -150,8 +150,8 @@ impl Bench for MemoryBench {
     fn sync(&mut self, area: Area) -> Result<(), Failed>
         ensures durable { OnOk result ((c : Items ℕ) → (seen self.new).image area c → (seen self.old).reads area ≡ Some c) }
         ensures same { (seen self.new).reads area ≡ (seen self.old).reads area }
-        ensures crash { Touches area ((seen self.old).image area) (seen self.old) (seen self.new) }
-        ensures cause { OnErr result (Rose (seen self.old) (seen self.new)) }
+        ensures crash { ChangesOnly area ((seen self.old).image area) (seen self.old) (seen self.new) }
+        ensures cause { OnErr result (FaultCounted (seen self.old) (seen self.new)) }
         ensures due { IsTrue (is_due self.old.tally Call.Sync) → IsErr result }
         ensures ok { OnOk result (self.new ≡ added (asked self.old Call.Sync) (Sync area)) }
         ensures err { OnErr result (self.new ≡ failed self.old Call.Sync) }
@@ -172,7 +172,7 @@ impl Bench for MemoryBench {
     fn say(&mut self, bytes: &[u8]) -> Result<(), Failed>
         ensures told { OnOk result ((seen self.new).told ≡ extended bytes.now (seen self.old).told) }
         ensures crash { Says bytes.now (seen self.old) (seen self.new) }
-        ensures cause { OnErr result (Rose (seen self.old) (seen self.new)) }
+        ensures cause { OnErr result (FaultCounted (seen self.old) (seen self.new)) }
         ensures due { IsTrue (is_due self.old.tally Call.Say) → IsErr result }
         ensures ok { OnOk result (self.new ≡ added (asked self.old Call.Say) (Say bytes.now)) }
         ensures err { OnErr result (HasFailedSaying bytes.now self.old self.new) }

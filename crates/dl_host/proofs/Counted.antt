@@ -1,10 +1,10 @@
 -- A count of faults beside what a host is seen as.
 use Rattle.std.proofs.Common.{ℕ, ◌≤◌, List, inl, inr, ⊎_elim}
 use Rattle.dl_base.specs.declared.area.Area.{Area}
-use Rattle.dl_base.specs.Outside.{Outside, During, Touches, Says}
+use Rattle.dl_base.specs.Outside.{Outside, During, ChangesOnly, Says}
 use Rattle.dl_host.specs.Hosts.{with_faults}
 
-pub touches_counted : (area : Area) (Q : List ℕ → Type 0) (o n : Outside) (f g : ℕ) → f ≤ g → Touches area Q o n → Touches area Q (with_faults f o) (with_faults g n)
+pub touches_counted : (area : Area) (Q : List ℕ → Type 0) (o n : Outside) (f g : ℕ) → f ≤ g → ChangesOnly area Q o n → ChangesOnly area Q (with_faults f o) (with_faults g n)
 touches_counted area Q o n f g le t = record {
   later = t.later;
   faults = le;

@@ -1,7 +1,7 @@
 -- Calls that touch nothing, and what stays held.
 use Rattle.std.proofs.Common.{◌≡◌, ◌≢◌, ℕ, zero, suc, List, [], ◌++◌, take, true, Option, Some, IsSome, refl, sym, ◌∙◌, ap, subst, append-nil, inl, inr, ⊎_elim}
 use Rattle.dl_base.specs.declared.area.Area.{Area}
-use Rattle.dl_base.specs.Outside.{Outside, Touches, Says, Torn, TellsFront}
+use Rattle.dl_base.specs.Outside.{Outside, ChangesOnly, Says, Torn, TellsFront}
 use Rattle.dl_base.proofs.Areas.{same_area}
 use Rattle.dl_base.proofs.Moments.{touches_more, touches_then}
 use Rattle.dl_host.specs.Hosts.{Hold, Stays}
@@ -16,7 +16,7 @@ same_told : (n : ℕ) (told p : List ℕ) (o : Option (List ℕ)) → o ≡ Some
 same_told n told p o is front = is ∙ ap (λ (l : List ℕ). Some l) (sym (front ∙ ap (λ (l : List ℕ). told ++ l) (no_front n) ∙ append-nil told))
 
 -- a call that tells nothing touches no area
-pub idle_touches : (area : Area) (o n : Outside) → n.told ≡ o.told → Says [] o n → Touches area (o.image area) o n
+pub idle_touches : (area : Area) (o n : Outside) → n.told ≡ o.told → Says [] o n → ChangesOnly area (o.image area) o n
 idle_touches area o n same s = record {
   later = s.later;
   faults = s.faults;
@@ -33,11 +33,11 @@ idle_touches area o n same s = record {
 }
 
 -- a write behind a call that changes nothing in the area
-pub torn_behind : (area : Area) (at n : ℕ) (o m l : Outside) → Touches area (o.image area) o m → Touches area (Torn at n (m.image area)) m l → Touches area (Torn at n (o.image area)) o l
+pub torn_behind : (area : Area) (at n : ℕ) (o m l : Outside) → ChangesOnly area (o.image area) o m → ChangesOnly area (Torn at n (m.image area)) m l → ChangesOnly area (Torn at n (o.image area)) o l
 torn_behind area at n o m l first second = touches_then area (Torn at n (o.image area)) o m l (touches_more area (o.image area) (Torn at n (o.image area)) o m (λ c left. nothing_torn at n (o.image area) c left) first)
     (touches_more area (Torn at n (m.image area)) (Torn at n (o.image area)) m l (λ c torn. (torn.0, first.here torn.0 torn.1, torn.2)) second)
 
-pub torn_unwritten : (area : Area) (at n : ℕ) (o m : Outside) → Touches area (o.image area) o m → Touches area (Torn at n (o.image area)) o m
+pub torn_unwritten : (area : Area) (at n : ℕ) (o m : Outside) → ChangesOnly area (o.image area) o m → ChangesOnly area (Torn at n (o.image area)) o m
 torn_unwritten area at n o m first = touches_more area (o.image area) (Torn at n (o.image area)) o m (λ c left. nothing_torn at n (o.image area) c left) first
 
 front_wider : (bytes : List ℕ) (o : Option (List ℕ)) (p : List ℕ) → TellsFront [] o p → TellsFront bytes o p

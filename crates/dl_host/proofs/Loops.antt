@@ -3,7 +3,7 @@ use Rattle.std.proofs.Common.{◌≡◌, ℕ, ◌+◌, ◌-◌, ◌≤◌, List,
 use Rattle.std.proofs.lemmas.List.{take_at, take_all, drop_at, drop-take, take-take, take-append-le, drop-drop, length-take-le}
 use borrow.Rule.Slice.PartMut.{put_mid}
 use Rattle.dl_base.specs.declared.area.Area.{Area}
-use Rattle.dl_base.specs.Outside.{Outside, Touches, Says, Torn, TornFrom, TellsFront, replaced, overwritten, portion, extended}
+use Rattle.dl_base.specs.Outside.{Outside, ChangesOnly, Says, Torn, TornFrom, TellsFront, replaced, overwritten, portion, extended}
 use Rattle.dl_base.proofs.Moments.{touches_more, touches_then}
 use Rattle.dl_host.specs.Hosts.{Hold, Stays}
 
@@ -83,14 +83,14 @@ nothing_torn at n image c left = (c, left, torn_none at n c)
 
 -- one more write within the range of all
 pub touches_on : (area : Area) (at n at' n' : ℕ) (o m l : Outside) → at ≤ at' → at' + n' ≤ at + n
-    → Touches area (Torn at n (o.image area)) o m → Touches area (Torn at' n' (m.image area)) m l → Touches area (Torn at n (o.image area)) o l
+    → ChangesOnly area (Torn at n (o.image area)) o m → ChangesOnly area (Torn at' n' (m.image area)) m l → ChangesOnly area (Torn at n (o.image area)) o l
 touches_on area at n at' n' o m l low high first second = touches_then area (Torn at n (o.image area)) o m l first (touches_more area (Torn at' n' (m.image area)) (Torn at n (o.image area)) m l wider second)
   where
     wider : (c : List ℕ) → Torn at' n' (m.image area) c → Torn at n (o.image area) c
     wider c left = let was = first.here left.0 left.1 in (was.0, was.1, torn_within at n at' n' was.0 left.0 c low high was.2 left.2)
 
 -- a call that changes nothing in the area
-pub touches_still : (area : Area) (Q : List ℕ → Type 0) (o m l : Outside) → Touches area Q o m → Touches area (m.image area) m l → Touches area Q o l
+pub touches_still : (area : Area) (Q : List ℕ → Type 0) (o m l : Outside) → ChangesOnly area Q o m → ChangesOnly area (m.image area) m l → ChangesOnly area Q o l
 touches_still area Q o m l first t = touches_then area Q o m l first (touches_more area _ Q m l first.here t)
 
 -- nothing is told yet
@@ -143,8 +143,8 @@ told_then bytes done n (Some told) m l first second =
 rest_is : (done : ℕ) (bytes : List ℕ) → take (length bytes - done) (drop done bytes) ≡ drop done bytes
 rest_is done bytes = take_all (length bytes - done) (drop done bytes) (omega (arith, length-drop done bytes))
 
-pub touches_rest : (area : Area) (at done : ℕ) (bytes : List ℕ) (o m l : Outside) → done ≤ length bytes → Touches area (Torn at (length bytes) (o.image area)) o m
-    → Touches area (Torn (at + done) (length (take (length bytes - done) (drop done bytes))) (m.image area)) m l → Touches area (Torn at (length bytes) (o.image area)) o l
+pub touches_rest : (area : Area) (at done : ℕ) (bytes : List ℕ) (o m l : Outside) → done ≤ length bytes → ChangesOnly area (Torn at (length bytes) (o.image area)) o m
+    → ChangesOnly area (Torn (at + done) (length (take (length bytes - done) (drop done bytes))) (m.image area)) m l → ChangesOnly area (Torn at (length bytes) (o.image area)) o l
 touches_rest area at done bytes o m l le first second =
     touches_on area at (length bytes) (at + done) (length (take (length bytes - done) (drop done bytes))) o m l (omega arith) (omega (arith, le, ap length (rest_is done bytes), length-drop done bytes)) first second
 

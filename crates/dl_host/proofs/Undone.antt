@@ -1,7 +1,7 @@
 -- Calls that are made again: one that was interrupted did nothing.
 use Rattle.std.proofs.Common.{◌≡◌, ℕ, ◌+◌, ◌-◌, ◌≤◌, ◌<◌, ◌^◌, List, true, refl, ◌∙◌, ap, arith}
 use Rattle.dl_base.specs.declared.area.Area.{Area}
-use Rattle.dl_base.specs.Outside.{Outside, Touches, Says}
+use Rattle.dl_base.specs.Outside.{Outside, ChangesOnly, Says}
 use Rattle.dl_base.proofs.Moments.{touches_none}
 use Rattle.dl_host.specs.declared.host.Stop.{Stop}
 use Rattle.dl_host.specs.declared.host.Stop.TheVariants.{Interrupted}
@@ -12,7 +12,7 @@ use Rattle.dl_host.proofs.Loops.{stays_none, stays_then, says_none, says_on, tol
 pub record Undone (area : Area) (Q : List ℕ → Type 0) (o m : Outside) (h k : Hold) (turns interruptions : ℕ) : Type 0 where
   pub counted : turns ≤ interruptions
   pub same : m.reads area ≡ o.reads area
-  pub crash : Touches area Q o m
+  pub crash : ChangesOnly area Q o m
   pub locked : k.has_lock ≡ true
   pub stays : Stays h k
 
@@ -30,7 +30,7 @@ counted_on : (why : Stop) (turns n now : ℕ) → why ≡ Interrupted → now �
 counted_on why turns n now is counts le few = let one : now ≡ count_after (is_interruption Interrupted) n = counts ∙ ap (λ (w : Stop). count_after (is_interruption w) n) is in omega arith
 
 pub undone_on : {area : Area} {Q : List ℕ → Type 0} {o m l : Outside} {h k j : Hold} {turns n now : ℕ} {why : Stop} → Undone area Q o m h k turns n → why ≡ Interrupted
-    → now ≡ count_after (is_interruption why) n → turns < 2 ^ 64 - 1 → l.reads area ≡ m.reads area → Touches area Q o l → Stays k j → Undone area Q o l h j (turns + 1) now
+    → now ≡ count_after (is_interruption why) n → turns < 2 ^ 64 - 1 → l.reads area ≡ m.reads area → ChangesOnly area Q o l → Stays k j → Undone area Q o l h j (turns + 1) now
 undone_on u is counts few same crash stays = record {
   counted = counted_on _ _ _ _ is counts u.counted few;
   same = same ∙ u.same;

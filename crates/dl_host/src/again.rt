@@ -1,7 +1,7 @@
 // Calls of the system, each made again where a signal came first.
 ghost use Rattle.std.specs.Prelude.{◌≡◌, ◌⊎◌, ◌+◌, ◌≤◌, ◌<◌, ◌^◌, [], true, List, ℕ, length, take, Some, IfOk, OnOk, OnErr};
 ghost use Rattle.std.specs.Option.{ForSome};
-ghost use Rattle.dl_base.specs.Outside.{Touches, Says, Torn, overwritten, portion, extended, Rose};
+ghost use Rattle.dl_base.specs.Outside.{ChangesOnly, Says, Torn, overwritten, portion, extended, FaultCounted};
 ghost use Rattle.dl_host.specs.Hosts.{Stays, NeverLeftAlone};
 
 use crate::names::file_name;
@@ -14,7 +14,7 @@ pub fn locked<H: Host>(host: &mut H) -> Result<(), Failed>
     ensures told { (H.outside host.new).told ≡ (H.outside host.old).told }
     ensures crash { Says [] (H.outside host.old) (H.outside host.new) }
     ensures stays { Stays (H.hold host.old) (H.hold host.new) }
-    ensures cause { OnErr result (Rose (H.outside host.old) (H.outside host.new) ⊎ NeverLeftAlone (H.interruptions host.new)) }
+    ensures cause { OnErr result (FaultCounted (H.outside host.old) (H.outside host.new) ⊎ NeverLeftAlone (H.interruptions host.new)) }
 {
     'again: for _turn in 0..u64::MAX {
         match host.lock() {
@@ -31,9 +31,9 @@ pub fn open_file<H: Host>(host: &mut H, area: Area) -> Result<H::File, Failed>
     requires locked { (H.hold host.old).has_lock ≡ true }
     ensures opened { IfOk result (λ file. H.area_of file ≡ area) }
     ensures same { (H.outside host.new).reads area ≡ (H.outside host.old).reads area }
-    ensures crash { Touches area ((H.outside host.old).image area) (H.outside host.old) (H.outside host.new) }
+    ensures crash { ChangesOnly area ((H.outside host.old).image area) (H.outside host.old) (H.outside host.new) }
     ensures stays { Stays (H.hold host.old) (H.hold host.new) }
-    ensures cause { OnErr result (Rose (H.outside host.old) (H.outside host.new) ⊎ NeverLeftAlone (H.interruptions host.new)) }
+    ensures cause { OnErr result (FaultCounted (H.outside host.old) (H.outside host.new) ⊎ NeverLeftAlone (H.interruptions host.new)) }
 {
     'again: for _turn in 0..u64::MAX {
         match host.open(area, file_name(area)) {
@@ -50,9 +50,9 @@ pub fn sync_folder<H: Host>(host: &mut H, file: &H::File) -> Result<(), Failed>
     requires locked { (H.hold host.old).has_lock ≡ true }
     ensures named { OnOk result ((H.hold host.new).is_named (H.area_of file.now) ≡ true) }
     ensures same { (H.outside host.new).reads (H.area_of file.now) ≡ (H.outside host.old).reads (H.area_of file.now) }
-    ensures crash { Touches (H.area_of file.now) ((H.outside host.old).image (H.area_of file.now)) (H.outside host.old) (H.outside host.new) }
+    ensures crash { ChangesOnly (H.area_of file.now) ((H.outside host.old).image (H.area_of file.now)) (H.outside host.old) (H.outside host.new) }
     ensures stays { Stays (H.hold host.old) (H.hold host.new) }
-    ensures cause { OnErr result (Rose (H.outside host.old) (H.outside host.new) ⊎ NeverLeftAlone (H.interruptions host.new)) }
+    ensures cause { OnErr result (FaultCounted (H.outside host.old) (H.outside host.new) ⊎ NeverLeftAlone (H.interruptions host.new)) }
 {
     'again: for _turn in 0..u64::MAX {
         match host.sync_folder(file) {
@@ -69,9 +69,9 @@ pub fn measured<H: Host>(host: &mut H, file: &H::File) -> Result<u64, Failed>
     requires locked { (H.hold host.old).has_lock ≡ true }
     ensures value { IfOk result (λ n. ForSome ((H.outside host.old).reads (H.area_of file.now)) (λ bytes. n ≡ length bytes)) }
     ensures same { (H.outside host.new).reads (H.area_of file.now) ≡ (H.outside host.old).reads (H.area_of file.now) }
-    ensures crash { Touches (H.area_of file.now) ((H.outside host.old).image (H.area_of file.now)) (H.outside host.old) (H.outside host.new) }
+    ensures crash { ChangesOnly (H.area_of file.now) ((H.outside host.old).image (H.area_of file.now)) (H.outside host.old) (H.outside host.new) }
     ensures stays { Stays (H.hold host.old) (H.hold host.new) }
-    ensures cause { OnErr result (Rose (H.outside host.old) (H.outside host.new) ⊎ NeverLeftAlone (H.interruptions host.new)) }
+    ensures cause { OnErr result (FaultCounted (H.outside host.old) (H.outside host.new) ⊎ NeverLeftAlone (H.interruptions host.new)) }
 {
     'again: for _turn in 0..u64::MAX {
         match host.length(file) {
@@ -96,9 +96,9 @@ pub fn write_some<H: Host>(
     requires ends { at + length bytes.now ≤ 2 ^ 63 }
     ensures count { IfOk result (λ n. (0 < n) × (n ≤ length bytes.now)) }
     ensures written { IfOk result (λ n. (H.outside host.new).reads (H.area_of file.now) ≡ overwritten at (take n bytes.now) ((H.outside host.old).reads (H.area_of file.now))) }
-    ensures crash { Touches (H.area_of file.now) (Torn at (length bytes.now) ((H.outside host.old).image (H.area_of file.now))) (H.outside host.old) (H.outside host.new) }
+    ensures crash { ChangesOnly (H.area_of file.now) (Torn at (length bytes.now) ((H.outside host.old).image (H.area_of file.now))) (H.outside host.old) (H.outside host.new) }
     ensures stays { Stays (H.hold host.old) (H.hold host.new) }
-    ensures cause { OnErr result (Rose (H.outside host.old) (H.outside host.new) ⊎ NeverLeftAlone (H.interruptions host.new)) }
+    ensures cause { OnErr result (FaultCounted (H.outside host.old) (H.outside host.new) ⊎ NeverLeftAlone (H.interruptions host.new)) }
 {
     'again: for _turn in 0..u64::MAX {
         match host.write_at(file, at, bytes) {
@@ -123,9 +123,9 @@ pub fn read_some<H: Host>(
     ensures count { IfOk result (λ n. (0 < n) × (n ≤ length into.old)) }
     ensures bytes { IfOk result (λ n. ForSome ((H.outside host.old).reads (H.area_of file.now)) (λ bytes. take n into.new ≡ portion at n bytes)) }
     ensures same { (H.outside host.new).reads (H.area_of file.now) ≡ (H.outside host.old).reads (H.area_of file.now) }
-    ensures crash { Touches (H.area_of file.now) ((H.outside host.old).image (H.area_of file.now)) (H.outside host.old) (H.outside host.new) }
+    ensures crash { ChangesOnly (H.area_of file.now) ((H.outside host.old).image (H.area_of file.now)) (H.outside host.old) (H.outside host.new) }
     ensures stays { Stays (H.hold host.old) (H.hold host.new) }
-    ensures cause { OnErr result (Rose (H.outside host.old) (H.outside host.new) ⊎ NeverLeftAlone (H.interruptions host.new)) }
+    ensures cause { OnErr result (FaultCounted (H.outside host.old) (H.outside host.new) ⊎ NeverLeftAlone (H.interruptions host.new)) }
 {
     'again: for _turn in 0..u64::MAX {
         match host.read_at(file, at, into) {
@@ -144,9 +144,9 @@ pub fn synced<H: Host>(host: &mut H, file: &H::File) -> Result<(), Failed>
     requires named { (H.hold host.old).is_named (H.area_of file.now) ≡ true }
     ensures durable { OnOk result ((c : List ℕ) → (H.outside host.new).image (H.area_of file.now) c → (H.outside host.old).reads (H.area_of file.now) ≡ Some c) }
     ensures same { (H.outside host.new).reads (H.area_of file.now) ≡ (H.outside host.old).reads (H.area_of file.now) }
-    ensures crash { Touches (H.area_of file.now) ((H.outside host.old).image (H.area_of file.now)) (H.outside host.old) (H.outside host.new) }
+    ensures crash { ChangesOnly (H.area_of file.now) ((H.outside host.old).image (H.area_of file.now)) (H.outside host.old) (H.outside host.new) }
     ensures stays { Stays (H.hold host.old) (H.hold host.new) }
-    ensures cause { OnErr result (Rose (H.outside host.old) (H.outside host.new) ⊎ NeverLeftAlone (H.interruptions host.new)) }
+    ensures cause { OnErr result (FaultCounted (H.outside host.old) (H.outside host.new) ⊎ NeverLeftAlone (H.interruptions host.new)) }
 {
     'again: for _turn in 0..u64::MAX {
         match host.sync(file) {
@@ -166,7 +166,7 @@ pub fn tell_some<H: Host>(host: &mut H, bytes: &[u8]) -> Result<usize, Failed>
     ensures told { IfOk result (λ n. (H.outside host.new).told ≡ extended (take n bytes.now) (H.outside host.old).told) }
     ensures crash { Says bytes.now (H.outside host.old) (H.outside host.new) }
     ensures stays { Stays (H.hold host.old) (H.hold host.new) }
-    ensures cause { OnErr result (Rose (H.outside host.old) (H.outside host.new) ⊎ NeverLeftAlone (H.interruptions host.new)) }
+    ensures cause { OnErr result (FaultCounted (H.outside host.old) (H.outside host.new) ⊎ NeverLeftAlone (H.interruptions host.new)) }
 {
     'again: for _turn in 0..u64::MAX {
         match host.tell(bytes) {

@@ -1,7 +1,7 @@
 // Calls of the system, one after another until all is done.
 ghost use Rattle.std.specs.Prelude.{◌≡◌, ◌⊎◌, ◌+◌, ◌≤◌, ◌<◌, ◌^◌, true, List, ℕ, length, take, Some, IfOk, OnOk, OnErr};
 ghost use Rattle.std.specs.Option.{ForSome};
-ghost use Rattle.dl_base.specs.Outside.{Touches, Says, Torn, overwritten, portion, extended, Rose};
+ghost use Rattle.dl_base.specs.Outside.{ChangesOnly, Says, Torn, overwritten, portion, extended, FaultCounted};
 ghost use Rattle.dl_host.specs.Hosts.{Stays, NeverLeftAlone};
 
 use crate::Host;
@@ -15,9 +15,9 @@ pub fn opened<H: Host>(host: &mut H, area: Area) -> Result<H::File, Failed>
     ensures here { IfOk result (λ file. H.area_of file ≡ area) }
     ensures named { OnOk result ((H.hold host.new).is_named area ≡ true) }
     ensures same { (H.outside host.new).reads area ≡ (H.outside host.old).reads area }
-    ensures crash { Touches area ((H.outside host.old).image area) (H.outside host.old) (H.outside host.new) }
+    ensures crash { ChangesOnly area ((H.outside host.old).image area) (H.outside host.old) (H.outside host.new) }
     ensures stays { Stays (H.hold host.old) (H.hold host.new) }
-    ensures cause { OnErr result (Rose (H.outside host.old) (H.outside host.new) ⊎ NeverLeftAlone (H.interruptions host.new)) }
+    ensures cause { OnErr result (FaultCounted (H.outside host.old) (H.outside host.new) ⊎ NeverLeftAlone (H.interruptions host.new)) }
 {
     match open_file(host, area) {
         Ok(file) => match sync_folder(host, &file) {
@@ -34,9 +34,9 @@ pub fn write_all<H: Host>(host: &mut H, file: &H::File, at: u64, bytes: &[u8]) -
     requires begins { ForSome ((H.outside host.old).reads (H.area_of file.now)) (λ old. at ≤ length old) }
     requires ends { at + length bytes.now ≤ 2 ^ 63 }
     ensures written { OnOk result ((H.outside host.new).reads (H.area_of file.now) ≡ overwritten at bytes.now ((H.outside host.old).reads (H.area_of file.now))) }
-    ensures crash { Touches (H.area_of file.now) (Torn at (length bytes.now) ((H.outside host.old).image (H.area_of file.now))) (H.outside host.old) (H.outside host.new) }
+    ensures crash { ChangesOnly (H.area_of file.now) (Torn at (length bytes.now) ((H.outside host.old).image (H.area_of file.now))) (H.outside host.old) (H.outside host.new) }
     ensures stays { Stays (H.hold host.old) (H.hold host.new) }
-    ensures cause { OnErr result (Rose (H.outside host.old) (H.outside host.new) ⊎ NeverLeftAlone (H.interruptions host.new)) }
+    ensures cause { OnErr result (FaultCounted (H.outside host.old) (H.outside host.new) ⊎ NeverLeftAlone (H.interruptions host.new)) }
 {
     let mut done: usize = 0;
     'more: while done < bytes.len() {
@@ -60,9 +60,9 @@ pub fn read_all<H: Host>(
     requires inside { ForSome ((H.outside host.old).reads (H.area_of file.now)) (λ bytes. at + length into.old ≤ length bytes) }
     ensures value { OnOk result (ForSome ((H.outside host.old).reads (H.area_of file.now)) (λ bytes. into.new ≡ portion at (length into.old) bytes)) }
     ensures same { (H.outside host.new).reads (H.area_of file.now) ≡ (H.outside host.old).reads (H.area_of file.now) }
-    ensures crash { Touches (H.area_of file.now) ((H.outside host.old).image (H.area_of file.now)) (H.outside host.old) (H.outside host.new) }
+    ensures crash { ChangesOnly (H.area_of file.now) ((H.outside host.old).image (H.area_of file.now)) (H.outside host.old) (H.outside host.new) }
     ensures stays { Stays (H.hold host.old) (H.hold host.new) }
-    ensures cause { OnErr result (Rose (H.outside host.old) (H.outside host.new) ⊎ NeverLeftAlone (H.interruptions host.new) ⊎ 2 ^ 64 < at + length into.old) }
+    ensures cause { OnErr result (FaultCounted (H.outside host.old) (H.outside host.new) ⊎ NeverLeftAlone (H.interruptions host.new) ⊎ 2 ^ 64 < at + length into.old) }
 {
     let mut done: usize = 0;
     'more: while done < into.len() {
@@ -83,7 +83,7 @@ pub fn tell_all<H: Host>(host: &mut H, bytes: &[u8]) -> Result<(), Failed>
     ensures told { OnOk result ((H.outside host.new).told ≡ extended bytes.now (H.outside host.old).told) }
     ensures crash { Says bytes.now (H.outside host.old) (H.outside host.new) }
     ensures stays { Stays (H.hold host.old) (H.hold host.new) }
-    ensures cause { OnErr result (Rose (H.outside host.old) (H.outside host.new) ⊎ NeverLeftAlone (H.interruptions host.new)) }
+    ensures cause { OnErr result (FaultCounted (H.outside host.old) (H.outside host.new) ⊎ NeverLeftAlone (H.interruptions host.new)) }
 {
     let mut done: usize = 0;
     'more: while done < bytes.len() {

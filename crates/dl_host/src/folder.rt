@@ -1,7 +1,7 @@
 // The bench over the files of a folder.
 ghost use Rattle.std.specs.Prelude.{◌≡◌, ◌⊎◌, ◌+◌, ◌≤◌, ◌<◌, ◌^◌, [], true, false, is_err, IsSome, List as Items, ℕ, length, Some, None, IfOk, OnOk, OnErr};
 ghost use Rattle.std.specs.Option.{ForSome};
-ghost use Rattle.dl_base.specs.Outside.{Outside, Touches, Says, Torn, overwritten, portion, extended, Rose};
+ghost use Rattle.dl_base.specs.Outside.{Outside, ChangesOnly, Says, Torn, overwritten, portion, extended, FaultCounted};
 ghost use Rattle.dl_host.specs.Hosts.{with_faults, count_after, NeverLeftAlone};
 ghost use Rattle.dl_host.specs.Held.{AreHeld};
 ghost use Rattle.dl_host.specs.Slots.{slot_of};
@@ -64,7 +64,7 @@ impl<H: Host + Drop> FolderBench<H> {
         ensures told { (H.outside self.new.host).told ≡ (H.outside self.old.host).told }
         ensures crash { Says [] (H.outside self.old.host) (H.outside self.new.host) }
         ensures count { self.new.faults ≡ self.old.faults }
-        ensures cause { OnErr result (Rose (H.outside self.old.host) (H.outside self.new.host) ⊎ NeverLeftAlone (H.interruptions self.new.host)) }
+        ensures cause { OnErr result (FaultCounted (H.outside self.old.host) (H.outside self.new.host) ⊎ NeverLeftAlone (H.interruptions self.new.host)) }
     {
         if self.is_locked {
             return Ok(());
@@ -83,9 +83,9 @@ impl<H: Host + Drop> FolderBench<H> {
         ensures locked { OnOk result (self.new.is_locked ≡ true) }
         ensures open { OnOk result (IsSome (slot_of self.new.slots area)) }
         ensures same { (H.outside self.new.host).reads area ≡ (H.outside self.old.host).reads area }
-        ensures crash { Touches area ((H.outside self.old.host).image area) (H.outside self.old.host) (H.outside self.new.host) }
+        ensures crash { ChangesOnly area ((H.outside self.old.host).image area) (H.outside self.old.host) (H.outside self.new.host) }
         ensures count { self.new.faults ≡ self.old.faults }
-        ensures cause { OnErr result (Rose (H.outside self.old.host) (H.outside self.new.host) ⊎ NeverLeftAlone (H.interruptions self.new.host)) }
+        ensures cause { OnErr result (FaultCounted (H.outside self.old.host) (H.outside self.new.host) ⊎ NeverLeftAlone (H.interruptions self.new.host)) }
     {
         self.enter()?;
         if self.slots.at(area).is_some() {
@@ -99,9 +99,9 @@ impl<H: Host + Drop> FolderBench<H> {
     fn length_of(&mut self, area: Area) -> Result<u64, Failed>
         ensures value { IfOk result (λ n. ForSome ((H.outside self.old.host).reads area) (λ bytes. n ≡ length bytes)) }
         ensures same { (H.outside self.new.host).reads area ≡ (H.outside self.old.host).reads area }
-        ensures crash { Touches area ((H.outside self.old.host).image area) (H.outside self.old.host) (H.outside self.new.host) }
+        ensures crash { ChangesOnly area ((H.outside self.old.host).image area) (H.outside self.old.host) (H.outside self.new.host) }
         ensures count { self.new.faults ≡ self.old.faults }
-        ensures cause { OnErr result (Rose (H.outside self.old.host) (H.outside self.new.host) ⊎ NeverLeftAlone (H.interruptions self.new.host)) }
+        ensures cause { OnErr result (FaultCounted (H.outside self.old.host) (H.outside self.new.host) ⊎ NeverLeftAlone (H.interruptions self.new.host)) }
     {
         self.open(area)?;
         match self.slots.at(area) {
@@ -114,9 +114,9 @@ impl<H: Host + Drop> FolderBench<H> {
         requires { ForSome ((H.outside self.old.host).reads area) (λ bytes. at + length into.old ≤ length bytes) }
         ensures value { OnOk result (ForSome ((H.outside self.old.host).reads area) (λ bytes. into.new ≡ portion at (length into.old) bytes)) }
         ensures same { (H.outside self.new.host).reads area ≡ (H.outside self.old.host).reads area }
-        ensures crash { Touches area ((H.outside self.old.host).image area) (H.outside self.old.host) (H.outside self.new.host) }
+        ensures crash { ChangesOnly area ((H.outside self.old.host).image area) (H.outside self.old.host) (H.outside self.new.host) }
         ensures count { self.new.faults ≡ self.old.faults }
-        ensures cause { OnErr result (Rose (H.outside self.old.host) (H.outside self.new.host) ⊎ NeverLeftAlone (H.interruptions self.new.host) ⊎ 2 ^ 64 < at + length into.old) }
+        ensures cause { OnErr result (FaultCounted (H.outside self.old.host) (H.outside self.new.host) ⊎ NeverLeftAlone (H.interruptions self.new.host) ⊎ 2 ^ 64 < at + length into.old) }
     {
         self.open(area)?;
         match self.slots.at(area) {
@@ -129,9 +129,9 @@ impl<H: Host + Drop> FolderBench<H> {
         requires begins { ForSome ((H.outside self.old.host).reads area) (λ old. at ≤ length old) }
         requires ends { at + length bytes.now ≤ 2 ^ 63 }
         ensures written { OnOk result ((H.outside self.new.host).reads area ≡ overwritten at bytes.now ((H.outside self.old.host).reads area)) }
-        ensures crash { Touches area (Torn at (length bytes.now) ((H.outside self.old.host).image area)) (H.outside self.old.host) (H.outside self.new.host) }
+        ensures crash { ChangesOnly area (Torn at (length bytes.now) ((H.outside self.old.host).image area)) (H.outside self.old.host) (H.outside self.new.host) }
         ensures count { self.new.faults ≡ self.old.faults }
-        ensures cause { OnErr result (Rose (H.outside self.old.host) (H.outside self.new.host) ⊎ NeverLeftAlone (H.interruptions self.new.host)) }
+        ensures cause { OnErr result (FaultCounted (H.outside self.old.host) (H.outside self.new.host) ⊎ NeverLeftAlone (H.interruptions self.new.host)) }
     {
         self.open(area)?;
         match self.slots.at(area) {
@@ -143,9 +143,9 @@ impl<H: Host + Drop> FolderBench<H> {
     fn sync_of(&mut self, area: Area) -> Result<(), Failed>
         ensures durable { OnOk result ((c : Items ℕ) → (H.outside self.new.host).image area c → (H.outside self.old.host).reads area ≡ Some c) }
         ensures same { (H.outside self.new.host).reads area ≡ (H.outside self.old.host).reads area }
-        ensures crash { Touches area ((H.outside self.old.host).image area) (H.outside self.old.host) (H.outside self.new.host) }
+        ensures crash { ChangesOnly area ((H.outside self.old.host).image area) (H.outside self.old.host) (H.outside self.new.host) }
         ensures count { self.new.faults ≡ self.old.faults }
-        ensures cause { OnErr result (Rose (H.outside self.old.host) (H.outside self.new.host) ⊎ NeverLeftAlone (H.interruptions self.new.host)) }
+        ensures cause { OnErr result (FaultCounted (H.outside self.old.host) (H.outside self.new.host) ⊎ NeverLeftAlone (H.interruptions self.new.host)) }
     {
         self.open(area)?;
         match self.slots.at(area) {
@@ -158,7 +158,7 @@ impl<H: Host + Drop> FolderBench<H> {
         ensures told { OnOk result ((H.outside self.new.host).told ≡ extended bytes.now (H.outside self.old.host).told) }
         ensures crash { Says bytes.now (H.outside self.old.host) (H.outside self.new.host) }
         ensures count { self.new.faults ≡ self.old.faults }
-        ensures cause { OnErr result (Rose (H.outside self.old.host) (H.outside self.new.host) ⊎ NeverLeftAlone (H.interruptions self.new.host)) }
+        ensures cause { OnErr result (FaultCounted (H.outside self.old.host) (H.outside self.new.host) ⊎ NeverLeftAlone (H.interruptions self.new.host)) }
     {
         self.enter()?;
         tell_all(&mut self.host, bytes)
@@ -173,10 +173,10 @@ impl<H: Host + Drop> Bench for FolderBench<H> {
     fn length(&mut self, area: Area) -> Result<u64, Failed>
         ensures value { IfOk result (λ n. ForSome ((H.outside self.old.host).reads area) (λ bytes. n ≡ length bytes)) }
         ensures same { (H.outside self.new.host).reads area ≡ (H.outside self.old.host).reads area }
-        ensures crash { Touches area ((H.outside self.old.host).image area) (with_faults self.old.faults (H.outside self.old.host)) (with_faults self.new.faults (H.outside self.new.host)) }
-        ensures cause { OnErr result (Rose (with_faults self.old.faults (H.outside self.old.host)) (with_faults self.new.faults (H.outside self.new.host))) }
+        ensures crash { ChangesOnly area ((H.outside self.old.host).image area) (with_faults self.old.faults (H.outside self.old.host)) (with_faults self.new.faults (H.outside self.new.host)) }
+        ensures cause { OnErr result (FaultCounted (with_faults self.old.faults (H.outside self.old.host)) (with_faults self.new.faults (H.outside self.new.host))) }
         ensures exactly { self.new.faults ≡ count_after (is_err result) self.old.faults }
-        ensures by_host { OnErr result (Rose (H.outside self.old.host) (H.outside self.new.host) ⊎ NeverLeftAlone (H.interruptions self.new.host)) }
+        ensures by_host { OnErr result (FaultCounted (H.outside self.old.host) (H.outside self.new.host) ⊎ NeverLeftAlone (H.interruptions self.new.host)) }
     {
         let answer = self.length_of(area);
         self.counted(answer)
@@ -186,10 +186,10 @@ impl<H: Host + Drop> Bench for FolderBench<H> {
         requires { ForSome ((H.outside self.old.host).reads area) (λ bytes. at + length into.old ≤ length bytes) }
         ensures value { OnOk result (ForSome ((H.outside self.old.host).reads area) (λ bytes. into.new ≡ portion at (length into.old) bytes)) }
         ensures same { (H.outside self.new.host).reads area ≡ (H.outside self.old.host).reads area }
-        ensures crash { Touches area ((H.outside self.old.host).image area) (with_faults self.old.faults (H.outside self.old.host)) (with_faults self.new.faults (H.outside self.new.host)) }
-        ensures cause { OnErr result (Rose (with_faults self.old.faults (H.outside self.old.host)) (with_faults self.new.faults (H.outside self.new.host))) }
+        ensures crash { ChangesOnly area ((H.outside self.old.host).image area) (with_faults self.old.faults (H.outside self.old.host)) (with_faults self.new.faults (H.outside self.new.host)) }
+        ensures cause { OnErr result (FaultCounted (with_faults self.old.faults (H.outside self.old.host)) (with_faults self.new.faults (H.outside self.new.host))) }
         ensures exactly { self.new.faults ≡ count_after (is_err result) self.old.faults }
-        ensures by_host { OnErr result (Rose (H.outside self.old.host) (H.outside self.new.host) ⊎ NeverLeftAlone (H.interruptions self.new.host) ⊎ 2 ^ 64 < at + length into.old) }
+        ensures by_host { OnErr result (FaultCounted (H.outside self.old.host) (H.outside self.new.host) ⊎ NeverLeftAlone (H.interruptions self.new.host) ⊎ 2 ^ 64 < at + length into.old) }
     {
         let answer = self.read_from(area, at, into);
         self.counted(answer)
@@ -199,10 +199,10 @@ impl<H: Host + Drop> Bench for FolderBench<H> {
         requires begins { ForSome ((H.outside self.old.host).reads area) (λ old. at ≤ length old) }
         requires ends { at + length bytes.now ≤ 2 ^ 63 }
         ensures written { OnOk result ((H.outside self.new.host).reads area ≡ overwritten at bytes.now ((H.outside self.old.host).reads area)) }
-        ensures crash { Touches area (Torn at (length bytes.now) ((H.outside self.old.host).image area)) (with_faults self.old.faults (H.outside self.old.host)) (with_faults self.new.faults (H.outside self.new.host)) }
-        ensures cause { OnErr result (Rose (with_faults self.old.faults (H.outside self.old.host)) (with_faults self.new.faults (H.outside self.new.host))) }
+        ensures crash { ChangesOnly area (Torn at (length bytes.now) ((H.outside self.old.host).image area)) (with_faults self.old.faults (H.outside self.old.host)) (with_faults self.new.faults (H.outside self.new.host)) }
+        ensures cause { OnErr result (FaultCounted (with_faults self.old.faults (H.outside self.old.host)) (with_faults self.new.faults (H.outside self.new.host))) }
         ensures exactly { self.new.faults ≡ count_after (is_err result) self.old.faults }
-        ensures by_host { OnErr result (Rose (H.outside self.old.host) (H.outside self.new.host) ⊎ NeverLeftAlone (H.interruptions self.new.host)) }
+        ensures by_host { OnErr result (FaultCounted (H.outside self.old.host) (H.outside self.new.host) ⊎ NeverLeftAlone (H.interruptions self.new.host)) }
     {
         let answer = self.write_to(area, at, bytes);
         self.counted(answer)
@@ -211,10 +211,10 @@ impl<H: Host + Drop> Bench for FolderBench<H> {
     fn sync(&mut self, area: Area) -> Result<(), Failed>
         ensures durable { OnOk result ((c : Items ℕ) → (H.outside self.new.host).image area c → (H.outside self.old.host).reads area ≡ Some c) }
         ensures same { (H.outside self.new.host).reads area ≡ (H.outside self.old.host).reads area }
-        ensures crash { Touches area ((H.outside self.old.host).image area) (with_faults self.old.faults (H.outside self.old.host)) (with_faults self.new.faults (H.outside self.new.host)) }
-        ensures cause { OnErr result (Rose (with_faults self.old.faults (H.outside self.old.host)) (with_faults self.new.faults (H.outside self.new.host))) }
+        ensures crash { ChangesOnly area ((H.outside self.old.host).image area) (with_faults self.old.faults (H.outside self.old.host)) (with_faults self.new.faults (H.outside self.new.host)) }
+        ensures cause { OnErr result (FaultCounted (with_faults self.old.faults (H.outside self.old.host)) (with_faults self.new.faults (H.outside self.new.host))) }
         ensures exactly { self.new.faults ≡ count_after (is_err result) self.old.faults }
-        ensures by_host { OnErr result (Rose (H.outside self.old.host) (H.outside self.new.host) ⊎ NeverLeftAlone (H.interruptions self.new.host)) }
+        ensures by_host { OnErr result (FaultCounted (H.outside self.old.host) (H.outside self.new.host) ⊎ NeverLeftAlone (H.interruptions self.new.host)) }
     {
         let answer = self.sync_of(area);
         self.counted(answer)
@@ -223,9 +223,9 @@ impl<H: Host + Drop> Bench for FolderBench<H> {
     fn say(&mut self, bytes: &[u8]) -> Result<(), Failed>
         ensures told { OnOk result ((H.outside self.new.host).told ≡ extended bytes.now (H.outside self.old.host).told) }
         ensures crash { Says bytes.now (with_faults self.old.faults (H.outside self.old.host)) (with_faults self.new.faults (H.outside self.new.host)) }
-        ensures cause { OnErr result (Rose (with_faults self.old.faults (H.outside self.old.host)) (with_faults self.new.faults (H.outside self.new.host))) }
+        ensures cause { OnErr result (FaultCounted (with_faults self.old.faults (H.outside self.old.host)) (with_faults self.new.faults (H.outside self.new.host))) }
         ensures exactly { self.new.faults ≡ count_after (is_err result) self.old.faults }
-        ensures by_host { OnErr result (Rose (H.outside self.old.host) (H.outside self.new.host) ⊎ NeverLeftAlone (H.interruptions self.new.host)) }
+        ensures by_host { OnErr result (FaultCounted (H.outside self.old.host) (H.outside self.new.host) ⊎ NeverLeftAlone (H.interruptions self.new.host)) }
     {
         let answer = self.tell(bytes);
         self.counted(answer)

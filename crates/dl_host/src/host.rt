@@ -2,7 +2,7 @@
 ghost use Rattle.std.specs.Prelude.{◌≡◌, ◌+◌, ◌≤◌, ◌<◌, ◌^◌, Bool, true, List, ℕ, [], length, take, Option, Some, Err, IfOk, OnOk};
 ghost use Rattle.dl_base.specs.declared.area.Area.{Area};
 ghost use Rattle.std.specs.Option.{ForSome};
-ghost use Rattle.dl_base.specs.Outside.{Outside, Touches, Says, Torn, overwritten, portion, extended, IsLawful};
+ghost use Rattle.dl_base.specs.Outside.{Outside, ChangesOnly, Says, Torn, overwritten, portion, extended, IsLawful};
 ghost use Rattle.dl_base.specs.Sources.{Took};
 ghost use Rattle.dl_host.specs.Hosts.{Hold, Stays, name_of, count_after, has_failed, was_interrupted, falls_short};
 
@@ -50,7 +50,7 @@ pub trait Host {
         requires named { name.now ≡ name_of area }
         ensures opened { IfOk result (λ file. area_of file ≡ area) }
         ensures same { (outside self.new).reads area ≡ (outside self.old).reads area }
-        ensures crash { Touches area ((outside self.old).image area) (outside self.old) (outside self.new) }
+        ensures crash { ChangesOnly area ((outside self.old).image area) (outside self.old) (outside self.new) }
         ensures stays { Stays (hold self.old) (hold self.new) }
         ensures faults { (outside self.new).faults ≡ count_after (has_failed result) (outside self.old).faults }
         ensures interruptions { interruptions self.new ≡ count_after (was_interrupted result) (interruptions self.old) };
@@ -60,7 +60,7 @@ pub trait Host {
         requires locked { (hold self.old).has_lock ≡ true }
         ensures named { OnOk result ((hold self.new).is_named (area_of file.now) ≡ true) }
         ensures same { (outside self.new).reads (area_of file.now) ≡ (outside self.old).reads (area_of file.now) }
-        ensures crash { Touches (area_of file.now) ((outside self.old).image (area_of file.now)) (outside self.old) (outside self.new) }
+        ensures crash { ChangesOnly (area_of file.now) ((outside self.old).image (area_of file.now)) (outside self.old) (outside self.new) }
         ensures stays { Stays (hold self.old) (hold self.new) }
         ensures faults { (outside self.new).faults ≡ count_after (has_failed result) (outside self.old).faults }
         ensures interruptions { interruptions self.new ≡ count_after (was_interrupted result) (interruptions self.old) };
@@ -70,7 +70,7 @@ pub trait Host {
         requires locked { (hold self.old).has_lock ≡ true }
         ensures value { IfOk result (λ n. ForSome ((outside self.old).reads (area_of file.now)) (λ bytes. n ≡ length bytes)) }
         ensures same { (outside self.new).reads (area_of file.now) ≡ (outside self.old).reads (area_of file.now) }
-        ensures crash { Touches (area_of file.now) ((outside self.old).image (area_of file.now)) (outside self.old) (outside self.new) }
+        ensures crash { ChangesOnly (area_of file.now) ((outside self.old).image (area_of file.now)) (outside self.old) (outside self.new) }
         ensures stays { Stays (hold self.old) (hold self.new) }
         ensures faults { (outside self.new).faults ≡ count_after (has_failed result) (outside self.old).faults }
         ensures interruptions { interruptions self.new ≡ count_after (was_interrupted result) (interruptions self.old) };
@@ -81,7 +81,7 @@ pub trait Host {
         ensures count { IfOk result (λ n. n ≤ length into.old) }
         ensures bytes { IfOk result (λ n. ForSome ((outside self.old).reads (area_of file.now)) (λ bytes. take n into.new ≡ portion at n bytes)) }
         ensures same { (outside self.new).reads (area_of file.now) ≡ (outside self.old).reads (area_of file.now) }
-        ensures crash { Touches (area_of file.now) ((outside self.old).image (area_of file.now)) (outside self.old) (outside self.new) }
+        ensures crash { ChangesOnly (area_of file.now) ((outside self.old).image (area_of file.now)) (outside self.old) (outside self.new) }
         ensures stays { Stays (hold self.old) (hold self.new) }
         ensures faults { (outside self.new).faults ≡ count_after (falls_short (length into.old) result) (outside self.old).faults }
         ensures interruptions { interruptions self.new ≡ count_after (was_interrupted result) (interruptions self.old) };
@@ -95,7 +95,7 @@ pub trait Host {
         ensures count { IfOk result (λ n. n ≤ length bytes.now) }
         ensures written { IfOk result (λ n. (outside self.new).reads (area_of file.now) ≡ overwritten at (take n bytes.now) ((outside self.old).reads (area_of file.now))) }
         ensures again { result ≡ Err Stop.Interrupted → (outside self.new).reads (area_of file.now) ≡ (outside self.old).reads (area_of file.now) }
-        ensures crash { Touches (area_of file.now) (Torn at (length bytes.now) ((outside self.old).image (area_of file.now))) (outside self.old) (outside self.new) }
+        ensures crash { ChangesOnly (area_of file.now) (Torn at (length bytes.now) ((outside self.old).image (area_of file.now))) (outside self.old) (outside self.new) }
         ensures stays { Stays (hold self.old) (hold self.new) }
         ensures faults { (outside self.new).faults ≡ count_after (falls_short (length bytes.now) result) (outside self.old).faults }
         ensures interruptions { interruptions self.new ≡ count_after (was_interrupted result) (interruptions self.old) };
@@ -106,7 +106,7 @@ pub trait Host {
         ensures durable { OnOk result ((hold self.old).is_named (area_of file.now) ≡ true
             → (c : List ℕ) → (outside self.new).image (area_of file.now) c → (outside self.old).reads (area_of file.now) ≡ Some c) }
         ensures same { (outside self.new).reads (area_of file.now) ≡ (outside self.old).reads (area_of file.now) }
-        ensures crash { Touches (area_of file.now) ((outside self.old).image (area_of file.now)) (outside self.old) (outside self.new) }
+        ensures crash { ChangesOnly (area_of file.now) ((outside self.old).image (area_of file.now)) (outside self.old) (outside self.new) }
         ensures stays { Stays (hold self.old) (hold self.new) }
         ensures faults { (outside self.new).faults ≡ count_after (has_failed result) (outside self.old).faults }
         ensures interruptions { interruptions self.new ≡ count_after (was_interrupted result) (interruptions self.old) };

@@ -1,7 +1,7 @@
 -- What the device calls of an opening and of an append leave, call by call.
 use Rattle.std.proofs.Common.{◌≡◌, ℕ, ◌+◌, ◌≤◌, List, sym, ◌∙◌, subst, arith, inl, inr, Some}
 use Rattle.dl_base.specs.declared.area.Area.{Area}
-use Rattle.dl_base.specs.Outside.{Outside, Torn, TornFrom, Touches}
+use Rattle.dl_base.specs.Outside.{Outside, Torn, TornFrom, ChangesOnly}
 use Rattle.dl_base.proofs.Moments.{touches_more, touches_then}
 use Rattle.dl_journal.specs.Extent.{Extent}
 use Rattle.dl_journal.specs.Open.{Keeps, AddsOne, IsOpening}
@@ -13,25 +13,25 @@ use Rattle.dl_journal.proofs.Writes.{torn_behind, torn_gate}
 module _ (area : Area) (image : List ℕ → Type 0) (place : ℕ) where
   -- a write behind the gate
   behind : (at n : ℕ) (o m : Outside) → place + 1 ≤ at → ((c : List ℕ) → o.image area c → StillAtRest image place c)
-      → Touches area (Torn at n (o.image area)) o m → Touches area (StillAtRest image place) o m
+      → ChangesOnly area (Torn at n (o.image area)) o m → ChangesOnly area (StillAtRest image place) o m
   behind at n o m le here t = touches_more area _ (StillAtRest image place) o m still t
     where
       still : (c : List ℕ) → Torn at n (o.image area) c → StillAtRest image place c
       still c torn bodies fits all = torn_behind bodies at n torn.0 c (omega (arith, le, fits)) (here torn.0 torn.1 bodies fits all) torn.2
 
   -- one more call behind the gate
-  pub goes_behind : (at n : ℕ) (o m l : Outside) → place + 1 ≤ at → Touches area (StillAtRest image place) o m → Touches area (Torn at n (m.image area)) m l → Touches area (StillAtRest image place) o l
+  pub goes_behind : (at n : ℕ) (o m l : Outside) → place + 1 ≤ at → ChangesOnly area (StillAtRest image place) o m → ChangesOnly area (Torn at n (m.image area)) m l → ChangesOnly area (StillAtRest image place) o l
   goes_behind at n o m l le first t = touches_then area (StillAtRest image place) o m l first (behind at n m l le first.here t)
 
-pub first_behind : (area : Area) (place at n : ℕ) (o m : Outside) → place + 1 ≤ at → Touches area (Torn at n (o.image area)) o m → Touches area (StillAtRest (o.image area) place) o m
+pub first_behind : (area : Area) (place at n : ℕ) (o m : Outside) → place + 1 ≤ at → ChangesOnly area (Torn at n (o.image area)) o m → ChangesOnly area (StillAtRest (o.image area) place) o m
 first_behind area place at n o m le t = behind area (o.image area) place at n o m le (λ c left bodies fits all. all c left) t
 
 -- a call that changes nothing in the area
-pub stays : (area : Area) (Q : List ℕ → Type 0) (o m l : Outside) → Touches area Q o m → Touches area (m.image area) m l → Touches area Q o l
+pub stays : (area : Area) (Q : List ℕ → Type 0) (o m l : Outside) → ChangesOnly area Q o m → ChangesOnly area (m.image area) m l → ChangesOnly area Q o l
 stays area Q o m l first t = touches_then area Q o m l first (touches_more area _ Q m l first.here t)
 
 -- the write of the gate
-pub on_gate : (area : Area) (place : ℕ) (o m : Outside) → Touches area (Torn place 1 (o.image area)) o m → Touches area (HasGateTorn (o.image area) place) o m
+pub on_gate : (area : Area) (place : ℕ) (o m : Outside) → ChangesOnly area (Torn place 1 (o.image area)) o m → ChangesOnly area (HasGateTorn (o.image area) place) o m
 on_gate area place o m t = touches_more area _ (HasGateTorn (o.image area) place) o m torn t
   where
     torn : (c : List ℕ) → Torn place 1 (o.image area) c → HasGateTorn (o.image area) place c
@@ -42,13 +42,13 @@ module _ (area : Area) (place : ℕ) (journal : Extent) (body : List ℕ) (o : O
   kept at bodies keeps = subst (λ (a : Area). AllAtRest bodies (o.image a)) (sym at) keeps.images
 
   -- the first step adds nothing yet
-  pub staged_adds : (m : Outside) → area ≡ journal.area → place + 1 ≡ journal.length → Touches area (StillAtRest (o.image area) place) o m → Touches area (AddsOne journal body o) o m
+  pub staged_adds : (m : Outside) → area ≡ journal.area → place + 1 ≡ journal.length → ChangesOnly area (StillAtRest (o.image area) place) o m → ChangesOnly area (AddsOne journal body o) o m
   staged_adds m at long t = touches_more area _ (AddsOne journal body o) o m (λ c still bodies keeps. inl (still bodies (omega (arith, long, keeps.length)) (kept at bodies keeps))) t
 
   -- the second adds the body or it doesn't
   pub opened_adds : (m n : Outside) → area ≡ journal.area → place + 1 ≡ journal.length
       → ((bodies : List (List ℕ)) → size bodies ≡ place → AllAtRest bodies (o.image area) → AllStaged bodies body (m.image area))
-      → Touches area (HasGateTorn (m.image area) place) m n → Touches area (AddsOne journal body o) m n
+      → ChangesOnly area (HasGateTorn (m.image area) place) m n → ChangesOnly area (AddsOne journal body o) m n
   opened_adds m n at long staged t = touches_more area _ (AddsOne journal body o) m n adds t
     where
       adds : (c : List ℕ) → HasGateTorn (m.image area) place c → AddsOne journal body o c
@@ -56,7 +56,7 @@ module _ (area : Area) (place : ℕ) (journal : Extent) (body : List ℕ) (o : O
 
 -- a first gate in an area that was read as short
 pub opening_short : (area : Area) (o m n : Outside) → ((c : List ℕ) → m.image area c → (o.reads area ≡ Some c) × IsShort c)
-    → Touches area (o.image area) o m → Touches area (ShortAfter (m.image area)) m n → Touches area (IsOpening area o) o n
+    → ChangesOnly area (o.image area) o m → ChangesOnly area (ShortAfter (m.image area)) m n → ChangesOnly area (IsOpening area o) o n
 opening_short area o m n was read t = touches_then area (IsOpening area o) o m n (touches_more area _ (IsOpening area o) o m (λ c old. inl old) read) (touches_more area _ (IsOpening area o) m n closing t)
   where
     closing : (c : List ℕ) → ShortAfter (m.image area) c → IsOpening area o c

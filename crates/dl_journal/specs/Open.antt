@@ -1,6 +1,6 @@
 -- A journal that is open on a bench.
 use Rattle.std.specs.Prelude.{◌≡◌, ◌⊎◌, ℕ, ◌+◌, ◌<◌, ◌≤◌, ◌^◌, List, length, Option, Some, Ok, Err}
-use Rattle.dl_base.specs.Outside.{Outside, Touches}
+use Rattle.dl_base.specs.Outside.{Outside, ChangesOnly}
 use Rattle.dl_base.specs.declared.area.Area.{Area}
 use Rattle.dl_journal.specs.Extent.{Extent}
 use Rattle.dl_journal.specs.Records.{AllAtRest, HasOldOrNew, size, records}
@@ -42,7 +42,7 @@ ReadsSameList before after = (told c : List ℕ) → before ≡ Some told → af
 -- nothing was written: the area reads as before, and a crash leaves nothing that it might not have left before
 pub record IsUnwritten (area : Area) (old new : Outside) : Type 0 where
   pub reads : new.reads area ≡ old.reads area
-  pub images : Touches area (old.image area) old new
+  pub images : ChangesOnly area (old.image area) old new
 
 -- of each list that the journal keeps it has that list, without the body or with it
 abbrev pub AddsOne : Extent → List ℕ → Outside → List ℕ → Type 0

@@ -1,6 +1,6 @@
 // The two steps of an append.
 ghost use Rattle.std.specs.Prelude.{◌≡◌, ◌+◌, ◌≤◌, ◌^◌, ◌++◌, [], ◌∷◌, List, ℕ, length, OnOk, OnErr};
-ghost use Rattle.dl_base.specs.Outside.{Touches, Rose};
+ghost use Rattle.dl_base.specs.Outside.{ChangesOnly, FaultCounted};
 ghost use Rattle.dl_journal.specs.Open.{Reaches};
 ghost use Rattle.dl_journal.specs.Records.{AllAtRest, size};
 ghost use Rattle.dl_journal.specs.Steps.{AllStaged, StillAtRest, HasGateTorn};
@@ -16,8 +16,8 @@ pub fn stage<B: Bench>(bench: &mut B, area: Area, place: u64, body: &[u8]) -> Re
     ensures reaches { OnOk result (Reaches (place + 10 + length body.now) ((B.outside bench.new).reads area)) }
     ensures staged { OnOk result ((bodies : List (List ℕ)) → size bodies ≡ place → AllAtRest bodies ((B.outside bench.old).image area)
         → AllStaged bodies body.now ((B.outside bench.new).image area)) }
-    ensures images { Touches area (StillAtRest ((B.outside bench.old).image area) place) (B.outside bench.old) (B.outside bench.new) }
-    ensures cause { OnErr result (Rose (B.outside bench.old) (B.outside bench.new)) }
+    ensures images { ChangesOnly area (StillAtRest ((B.outside bench.old).image area) place) (B.outside bench.old) (B.outside bench.new) }
+    ensures cause { OnErr result (FaultCounted (B.outside bench.old) (B.outside bench.new)) }
 {
     let count = body.len() as u64;
     bench.write(area, place + 1, &count.to_be_bytes())?;
@@ -35,8 +35,8 @@ pub fn open_gate<B: Bench>(bench: &mut B, area: Area, place: u64) -> Result<(), 
     ensures reaches { OnOk result ((n : ℕ) → Reaches n ((B.outside bench.old).reads area) → Reaches n ((B.outside bench.new).reads area)) }
     ensures added { OnOk result ((bodies : List (List ℕ)) (body : List ℕ) → size bodies ≡ place → AllStaged bodies body ((B.outside bench.old).image area)
         → AllAtRest (bodies ++ body ∷ []) ((B.outside bench.new).image area)) }
-    ensures images { Touches area (HasGateTorn ((B.outside bench.old).image area) place) (B.outside bench.old) (B.outside bench.new) }
-    ensures cause { OnErr result (Rose (B.outside bench.old) (B.outside bench.new)) }
+    ensures images { ChangesOnly area (HasGateTorn ((B.outside bench.old).image area) place) (B.outside bench.old) (B.outside bench.new) }
+    ensures cause { OnErr result (FaultCounted (B.outside bench.old) (B.outside bench.new)) }
 {
     bench.write(area, place, &[1])?;
     bench.sync(area)?;

@@ -1,6 +1,6 @@
 // The device calls of an opening.
 ghost use Rattle.std.specs.Prelude.{◌≡◌, ◌≢◌, ◌≤◌, ◌^◌, [], List, ℕ, length, Some, Err, IfOk, OnOk, OnErr};
-ghost use Rattle.dl_base.specs.Outside.{Touches, Rose};
+ghost use Rattle.dl_base.specs.Outside.{ChangesOnly, FaultCounted};
 ghost use Rattle.dl_journal.specs.Records.{AllAtRest};
 ghost use Rattle.dl_journal.specs.Steps.{AreShort, ShortAfter, HasRead};
 
@@ -13,8 +13,8 @@ pub fn read_all<B: Bench>(alloc: Global, bench: &mut B, area: Area) -> Result<Ve
     ensures long { IfOk result (λ v. length v.items ≤ 2 ^ 63) }
     ensures durable { OnOk result ((c : List ℕ) → (B.outside bench.new).image area c → (B.outside bench.old).reads area ≡ Some c) }
     ensures same { (B.outside bench.new).reads area ≡ (B.outside bench.old).reads area }
-    ensures images { Touches area ((B.outside bench.old).image area) (B.outside bench.old) (B.outside bench.new) }
-    ensures device { result ≡ Err BeginFault.Device → Rose (B.outside bench.old) (B.outside bench.new) }
+    ensures images { ChangesOnly area ((B.outside bench.old).image area) (B.outside bench.old) (B.outside bench.new) }
+    ensures device { result ≡ Err BeginFault.Device → FaultCounted (B.outside bench.old) (B.outside bench.new) }
     ensures no_other { (place : ℕ) → result ≢ Err (BeginFault.NotAJournal place) }
 {
     bench.sync(area)?;
@@ -28,8 +28,8 @@ pub fn read_all<B: Bench>(alloc: Global, bench: &mut B, area: Area) -> Result<Ve
 pub fn write_first_gate<B: Bench>(bench: &mut B, area: Area) -> Result<(), Failed>
     requires short { AreShort ((B.outside bench.old).image area) }
     ensures closed { OnOk result (AllAtRest [] ((B.outside bench.new).image area)) }
-    ensures images { Touches area (ShortAfter ((B.outside bench.old).image area)) (B.outside bench.old) (B.outside bench.new) }
-    ensures cause { OnErr result (Rose (B.outside bench.old) (B.outside bench.new)) }
+    ensures images { ChangesOnly area (ShortAfter ((B.outside bench.old).image area)) (B.outside bench.old) (B.outside bench.new) }
+    ensures cause { OnErr result (FaultCounted (B.outside bench.old) (B.outside bench.new)) }
 {
     bench.write(area, 0, &[0])?;
     bench.sync(area)

@@ -1,5 +1,5 @@
 ghost use Rattle.std.specs.Prelude.{◌≡◌, ◌+◌, ◌-◌, ◌<◌, ◌≤◌, ◌^◌, ◌++◌, [], ◌∷◌, ◌↔◌, List, ℕ, min, length, Err, IfOk, IfErr, OnOk, OnErr};
-ghost use Rattle.dl_base.specs.Outside.{Touches, Rose};
+ghost use Rattle.dl_base.specs.Outside.{ChangesOnly, FaultCounted};
 ghost use Rattle.dl_journal.specs.Open.{IsOpen, Keeps, grown, IsList, IsNoList, IsOpening, IsUnwritten, ReadsSameList, AddsOne};
 
 use crate::append::{open_gate, stage};
@@ -55,13 +55,13 @@ impl Journal {
         ensures same_list { ReadsSameList ((B.outside bench.old).reads area) ((B.outside bench.new).reads area) }
 
         // A crash at any moment leaves what it might have left before, or the list that the area reads.
-        ensures images { Touches area (IsOpening area (B.outside bench.old)) (B.outside bench.old) (B.outside bench.new) }
+        ensures images { ChangesOnly area (IsOpening area (B.outside bench.old)) (B.outside bench.old) (B.outside bench.new) }
 
         // Bytes that are no list stay as they are.
         ensures no_list { (place : ℕ) → result ≡ Err (BeginFault.NotAJournal place) → IsNoList place ((B.outside bench.old).reads area) }
         ensures untouched { (place : ℕ) → result ≡ Err (BeginFault.NotAJournal place) → IsUnwritten area (B.outside bench.old) (B.outside bench.new) }
         ensures memory { result ≡ Err BeginFault.Memory → IsUnwritten area (B.outside bench.old) (B.outside bench.new) }
-        ensures device { result ≡ Err BeginFault.Device → Rose (B.outside bench.old) (B.outside bench.new) }
+        ensures device { result ≡ Err BeginFault.Device → FaultCounted (B.outside bench.old) (B.outside bench.new) }
     {
         let bytes = read_all(alloc, bench, area)?;
         if bytes.len() < 2 {
@@ -96,7 +96,7 @@ impl Journal {
             → Keeps self.new (bodies ++ body.now ∷ []) (B.outside bench.new)) }
 
         // A crash at any moment of the call leaves the list with the body or without. The other areas stay.
-        ensures images { Touches self.old.area (AddsOne self.old body.now (B.outside bench.old)) (B.outside bench.old) (B.outside bench.new) }
+        ensures images { ChangesOnly self.old.area (AddsOne self.old body.now (B.outside bench.old)) (B.outside bench.old) (B.outside bench.new) }
 
         ensures open { OnOk result (IsOpen self.new (B.outside bench.new)) }
         ensures length { OnOk result (self.new ≡ grown self.old (length body.now)) }
@@ -107,7 +107,7 @@ impl Journal {
             ↔ (result ≡ Err (AppendFault.Full (Full.Area self.old.area (min (self.old.length + 9 + length body.now) (2 ^ 64 - 1))))) }
         ensures room { self.old.length + 9 + length body.now ≤ self.old.limit → IfErr result (λ fault. fault ≡ AppendFault.Device) }
         ensures unwritten { self.old.limit < self.old.length + 9 + length body.now → bench.new ≡ bench.old }
-        ensures device { result ≡ Err AppendFault.Device → Rose (B.outside bench.old) (B.outside bench.new) }
+        ensures device { result ≡ Err AppendFault.Device → FaultCounted (B.outside bench.old) (B.outside bench.new) }
     {
         let start = self.place + 10;
         let count = body.len() as u64;

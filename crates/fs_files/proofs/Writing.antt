@@ -3,7 +3,7 @@ use Rattle.std.proofs.Common.{◌≡◌, inl, inr, ⊎_elim, ℕ, List, [], ◌�
 use Rattle.std.specs.Result.{OnOk}
 use Rattle.std.specs.FinMap as map
 use Rattle.dl_base.proofs.Moments.{touches_none, touches_more}
-use Rattle.dl_base.specs.Outside.{Outside, Touches}
+use Rattle.dl_base.specs.Outside.{Outside, ChangesOnly}
 use Rattle.dl_base.specs.declared.answer.FileRefusal.{FileRefusal}
 use Rattle.dl_base.specs.declared.area.Area.{Area}
 use Rattle.dl_base.specs.declared.area.Area.TheVariants as areas
@@ -51,15 +51,15 @@ pub holds_image : (now : Catalog) (bodies : List (List ℕ)) (o : Outside) → H
 holds_image now bodies o held c left = record { at_rest = held.keeps.images c left; stands = held.stands }
 
 -- nothing was written
-pub writes_nothing : (now : Catalog) (made : List FileChange) (o : Outside) → Touches areas.Files (StandsWithout now made o) o o
+pub writes_nothing : (now : Catalog) (made : List FileChange) (o : Outside) → ChangesOnly areas.Files (StandsWithout now made o) o o
 writes_nothing now made o = touches_none areas.Files (StandsWithout now made o) o (λ c left bodies later changed held. inl (holds_image now bodies o held c left))
 
 -- a record is appended
 pub writes_record : (now : Catalog) (j : Extent) (files : Files) (made : List FileChange) (body : List ℕ) (o n : Outside)
     → seen j files ≡ now → j.area ≡ areas.Files → files_record.fits (records.Batch 0 made) → body ≡ user_record made
-    → Touches j.area (AddsOne j body o) o n → Touches areas.Files (StandsWithout now made o) o n
+    → ChangesOnly j.area (AddsOne j body o) o n → ChangesOnly areas.Files (StandsWithout now made o) o n
 writes_record now j files made body o n view at fits is t =
-    touches_more areas.Files (AddsOne j body o) (StandsWithout now made o) o n wider (subst (λ (a : Area). Touches a (AddsOne j body o) o n) at t)
+    touches_more areas.Files (AddsOne j body o) (StandsWithout now made o) o n wider (subst (λ (a : Area). ChangesOnly a (AddsOne j body o) o n) at t)
   where
     wider : (c : List ℕ) → AddsOne j body o c → StandsWithout now made o c
     wider c adds bodies later changed held =
@@ -108,7 +108,7 @@ on_ok (Err e) p f = p
 
 -- a command is done
 pub command_around : (now : Catalog) (cmd : FileCmd) (made : List FileChange) (o n : Outside) → refusal now.files cmd ≡ None → IsWriting cmd.what → made ≡ command_changes now.files cmd.user cmd.what
-    → Touches areas.Files (StandsWithout now made o) o n → Touches areas.Files (StandsAround now cmd o) o n
+    → ChangesOnly areas.Files (StandsWithout now made o) o n → ChangesOnly areas.Files (StandsAround now cmd o) o n
 command_around now cmd made o n accepted writing is t = touches_more areas.Files (StandsWithout now made o) (StandsAround now cmd o) o n wider t
   where
     wider : (c : List ℕ) → StandsWithout now made o c → StandsAround now cmd o c

@@ -2,7 +2,7 @@
 ghost use Rattle.std.specs.Prelude.{◌≡◌, ◌<◌, ◌≤◌, ◌^◌, ℕ, List, [], ◌∷◌, ◌++◌, Some, None, Ok, Err, IsSome, IsErr, IfOk, OnOk, OnErr};
 ghost use Rattle.std.specs.FinMap as map;
 ghost use Rattle.std.specs.Option.{option_copied};
-ghost use Rattle.dl_base.specs.Outside.{Touches, Rose};
+ghost use Rattle.dl_base.specs.Outside.{ChangesOnly, FaultCounted};
 ghost use Rattle.dl_base.specs.declared.area.Area.TheVariants as areas;
 ghost use Rattle.dl_base.specs.declared.fault.Full.{Full};
 ghost use Rattle.dl_journal.specs.Open.{IsList, IsOpening, IsUnwritten, ReadsSameList};
@@ -63,11 +63,11 @@ impl Files {
         ensures same_list { ReadsSameList ((B.outside bench.old).reads areas.Files) ((B.outside bench.new).reads areas.Files) }
 
         // A crash at any moment leaves what it might have left before, or the list that the area reads.
-        ensures images { Touches areas.Files (IsOpening areas.Files (B.outside bench.old)) (B.outside bench.old) (B.outside bench.new) }
+        ensures images { ChangesOnly areas.Files (IsOpening areas.Files (B.outside bench.old)) (B.outside bench.old) (B.outside bench.new) }
 
         ensures no_files { (place : ℕ) → result ≡ Err (BeginFault.NotAJournal place) → (told : List ℕ) → (B.outside bench.old).reads areas.Files ≡ Some told → files_in told ≡ Err place }
         ensures untouched { (place : ℕ) → result ≡ Err (BeginFault.NotAJournal place) → IsUnwritten areas.Files (B.outside bench.old) (B.outside bench.new) }
-        ensures device { result ≡ Err BeginFault.Device → Rose (B.outside bench.old) (B.outside bench.new) }
+        ensures device { result ≡ Err BeginFault.Device → FaultCounted (B.outside bench.old) (B.outside bench.new) }
     {
         let (journal, bodies) = Journal::begin(alloc, bench, Area::Files, limit)?;
         let table = fold(alloc, &bodies)?;
@@ -221,7 +221,7 @@ impl Files {
         ensures ready { OnOk result (IsReady self.new (B.outside bench.new)) }
 
         // A crash at any moment of the call leaves the list with the record or without.
-        ensures images { Touches areas.Files (StandsAround self.old cmd (B.outside bench.old)) (B.outside bench.old) (B.outside bench.new) }
+        ensures images { ChangesOnly areas.Files (StandsAround self.old cmd (B.outside bench.old)) (B.outside bench.old) (B.outside bench.new) }
 
         ensures limit { self.new.limit ≡ self.old.limit }
 
@@ -231,7 +231,7 @@ impl Files {
         // It is full only where the record would pass the limit. Then nothing is written.
         ensures full { (full : Full) → result ≡ Err (StepFault.Full full) → (full ≡ full_with self.old (record_of self.old.files cmd)) × IsFullWith self.old (record_of self.old.files cmd) }
         ensures unwritten { IsFullWith self.old (record_of self.old.files cmd) → (bench.new ≡ bench.old) × IsErr result }
-        ensures device { result ≡ Err StepFault.Device → Rose (B.outside bench.old) (B.outside bench.new) }
+        ensures device { result ≡ Err StepFault.Device → FaultCounted (B.outside bench.old) (B.outside bench.new) }
     {
         let made = self.changes(cmd)?;
         self.write(bench, made)
@@ -305,13 +305,13 @@ impl Files {
         ensures files { OnOk result (with_changes self.old.files made ≡ Some self.new.files) }
         ensures kept { OnOk result ((bodies : List (List ℕ)) → Holds self.old bodies (B.outside bench.old) → Holds self.new (bodies ++ user_record made ∷ []) (B.outside bench.new)) }
         ensures ready { OnOk result (IsReady self.new (B.outside bench.new)) }
-        ensures images { Touches areas.Files (StandsWithout self.old made (B.outside bench.old)) (B.outside bench.old) (B.outside bench.new) }
+        ensures images { ChangesOnly areas.Files (StandsWithout self.old made (B.outside bench.old)) (B.outside bench.old) (B.outside bench.new) }
         ensures limit { self.new.limit ≡ self.old.limit }
         ensures err { OnErr result (self.new ≡ self.old) }
         ensures memory { result ≡ Err StepFault.Memory → bench.new ≡ bench.old }
         ensures full { (full : Full) → result ≡ Err (StepFault.Full full) → (full ≡ full_with self.old (user_record made)) × IsFullWith self.old (user_record made) }
         ensures unwritten { IsFullWith self.old (user_record made) → (bench.new ≡ bench.old) × IsErr result }
-        ensures device { result ≡ Err StepFault.Device → Rose (B.outside bench.old) (B.outside bench.new) }
+        ensures device { result ≡ Err StepFault.Device → FaultCounted (B.outside bench.old) (B.outside bench.new) }
     {
         let count = made.len();
         let batch = FilesRecord::Batch(0, made);

@@ -3,7 +3,7 @@
 use Rattle.std.proofs.Common.{◌≡◌, ℕ, ◌+◌, ◌-◌, ◌<◌, ◌≤◌, List, [], ◌∷◌, length, get_or, take, drop, slice_set, Some, ◌∙◌, refl, sym, ap, subst, arith}
 use Rattle.std.proofs.lemmas.List.{drop-drop, drop_more}
 use Rattle.dl_base.specs.declared.area.Area.{Area}
-use Rattle.dl_base.specs.Outside.{Touches, Says, Torn, TornFrom}
+use Rattle.dl_base.specs.Outside.{ChangesOnly, Says, Torn, TornFrom}
 use Rattle.dl_base.specs.Sources.{Took}
 use Rattle.dl_base.proofs.Moments.{touches_none, touches_more}
 use Rattle.dl_host.specs.Hosts.{with_faults}
@@ -26,15 +26,15 @@ torn_more at n m c d le torn =
 
 -- a call that did nothing
 module _ (b e : Trace) (same : e ≡ b) (f g : ℕ) (le : f ≤ g) where
-  pub touches_idle : (area : Area) → Touches area ((seen b).image area) (with_faults f (seen b)) (with_faults g (seen e))
+  pub touches_idle : (area : Area) → ChangesOnly area ((seen b).image area) (with_faults f (seen b)) (with_faults g (seen e))
   touches_idle area =
-      subst (λ (t : Trace). Touches area ((seen b).image area) (with_faults f (seen b)) (with_faults g (seen t))) (sym same)
+      subst (λ (t : Trace). ChangesOnly area ((seen b).image area) (with_faults f (seen b)) (with_faults g (seen t))) (sym same)
       (touches_counted area ((seen b).image area) (seen b) (seen b) f g le (touches_none area ((seen b).image area) (seen b) (λ c left. left)))
 
-  pub writes_idle : (area : Area) (at n : ℕ) → Touches area (Torn at n ((seen b).image area)) (with_faults f (seen b)) (with_faults g (seen e))
+  pub writes_idle : (area : Area) (at n : ℕ) → ChangesOnly area (Torn at n ((seen b).image area)) (with_faults f (seen b)) (with_faults g (seen e))
   writes_idle area at n =
       let Q = Torn at n ((seen b).image area) in
-      subst (λ (t : Trace). Touches area Q (with_faults f (seen b)) (with_faults g (seen t))) (sym same)
+      subst (λ (t : Trace). ChangesOnly area Q (with_faults f (seen b)) (with_faults g (seen t))) (sym same)
       (touches_counted area Q (seen b) (seen b) f g le (touches_none area Q (seen b) (λ c left. nothing_torn at n ((seen b).image area) c left)))
 
   pub says_idle : (bytes : List ℕ) → Says bytes (with_faults f (seen b)) (with_faults g (seen e))
@@ -42,17 +42,17 @@ module _ (b e : Trace) (same : e ≡ b) (f g : ℕ) (le : f ≤ g) where
 
 -- a call that the bench did, from m to l
 module _ (b m l e : Trace) (same : m ≡ b) (after : e ≡ l) (f g : ℕ) (le : f ≤ g) where
-  pub touches_done : (area : Area) → Touches area ((seen m).image area) (seen m) (seen l) → Touches area ((seen b).image area) (with_faults f (seen b)) (with_faults g (seen e))
+  pub touches_done : (area : Area) → ChangesOnly area ((seen m).image area) (seen m) (seen l) → ChangesOnly area ((seen b).image area) (with_faults f (seen b)) (with_faults g (seen e))
   touches_done area t =
-      subst (λ (x : Trace). Touches area ((seen x).image area) (with_faults f (seen x)) (with_faults g (seen e))) same
-      (subst (λ (x : Trace). Touches area ((seen m).image area) (with_faults f (seen m)) (with_faults g (seen x))) (sym after)
+      subst (λ (x : Trace). ChangesOnly area ((seen x).image area) (with_faults f (seen x)) (with_faults g (seen e))) same
+      (subst (λ (x : Trace). ChangesOnly area ((seen m).image area) (with_faults f (seen m)) (with_faults g (seen x))) (sym after)
       (touches_counted area ((seen m).image area) (seen m) (seen l) f g le t))
 
   -- a write of the first k of n bytes
-  pub writes_short : (area : Area) (at k n : ℕ) → k ≤ n → Touches area (Torn at k ((seen m).image area)) (seen m) (seen l) → Touches area (Torn at n ((seen b).image area)) (with_faults f (seen b)) (with_faults g (seen e))
+  pub writes_short : (area : Area) (at k n : ℕ) → k ≤ n → ChangesOnly area (Torn at k ((seen m).image area)) (seen m) (seen l) → ChangesOnly area (Torn at n ((seen b).image area)) (with_faults f (seen b)) (with_faults g (seen e))
   writes_short area at k n short t =
-      subst (λ (x : Trace). Touches area (Torn at n ((seen x).image area)) (with_faults f (seen x)) (with_faults g (seen e))) same
-      (subst (λ (x : Trace). Touches area (Torn at n ((seen m).image area)) (with_faults f (seen m)) (with_faults g (seen x))) (sym after)
+      subst (λ (x : Trace). ChangesOnly area (Torn at n ((seen x).image area)) (with_faults f (seen x)) (with_faults g (seen e))) same
+      (subst (λ (x : Trace). ChangesOnly area (Torn at n ((seen m).image area)) (with_faults f (seen m)) (with_faults g (seen x))) (sym after)
       (touches_counted area (Torn at n ((seen m).image area)) (seen m) (seen l) f g le
       (touches_more area (Torn at k ((seen m).image area)) (Torn at n ((seen m).image area)) (seen m) (seen l) (λ c torn. (torn.0, torn.1, torn_more at k n torn.0 c short torn.2)) t)))
 

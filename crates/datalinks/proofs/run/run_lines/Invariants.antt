@@ -1,6 +1,6 @@
 use Rattle.std.proofs.Common.{◌≡◌, ℕ, ◌+◌, ◌≤◌, List, length}
 use Rattle.std.specs.Str.Lines.{lines}
-use Rattle.dl_base.specs.Outside.{Moments}
+use Rattle.dl_base.specs.Outside.{AtEveryMoment}
 use Rattle.fs_files.specs.Store.{Holds, IsReady}
 use Rattle.meaning_machine.specs.Turns.{AreTurns}
 use Rattle.meaning_script.specs.declared.turn.Turn.{Turn}
@@ -20,7 +20,7 @@ invariant-loop-rest g l = record {
   reached : (turns : List Turn) → AreTurns l.given l.initial.sessions (lines l.script) turns → (bodies : List (List ℕ)) → Holds l.initial.store bodies (g.B.Bench.outside l.initial.bench)
       → Left l.given l.sessions (lines l.rest) turns bodies l.initial.store (g.B.Bench.outside l.initial.bench) l.store l.number (g.B.Bench.outside l.bench);
   moments : (turns : List Turn) → AreTurns l.given l.initial.sessions (lines l.script) turns → (bodies : List (List ℕ)) → Holds l.initial.store bodies (g.B.Bench.outside l.initial.bench)
-      → Moments (IsAfterSteps turns bodies l.initial.store.files (g.B.Bench.outside l.initial.bench).told) (g.B.Bench.outside l.initial.bench) (g.B.Bench.outside l.bench);
+      → AtEveryMoment (IsAfterSteps turns bodies l.initial.store.files (g.B.Bench.outside l.initial.bench).told) (g.B.Bench.outside l.initial.bench) (g.B.Bench.outside l.bench);
 }
 
 abbrev pub decreases-loop-rest : goal.decreases-loop-rest

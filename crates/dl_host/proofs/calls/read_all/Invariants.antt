@@ -1,5 +1,5 @@
 use Rattle.std.proofs.Common.{◌≡◌, ℕ, ◌-◌, ◌≤◌, List, length, take, true, Some}
-use Rattle.dl_base.specs.Outside.{Touches, portion}
+use Rattle.dl_base.specs.Outside.{ChangesOnly, portion}
 use Rattle.dl_host.specs.Hosts.{Stays}
 use Rattle.dl_host.proofs.calls.read_all.Given as goal
 
@@ -13,7 +13,7 @@ invariant-more g l =
       long : length l.into ≡ length l.initial.into;
       filled : (c : List ℕ) → o.reads area ≡ Some c → take l.done l.into ≡ portion l.at l.done c;
       same : n.reads area ≡ o.reads area;
-      crash : Touches area (o.image area) o n;
+      crash : ChangesOnly area (o.image area) o n;
       locked : (g.H.Host.hold l.host).has_lock ≡ true;
       stays : Stays (g.H.Host.hold l.initial.host) (g.H.Host.hold l.host);
     }

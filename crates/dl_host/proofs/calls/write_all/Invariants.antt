@@ -1,5 +1,5 @@
 use Rattle.std.proofs.Common.{◌≡◌, ◌-◌, ◌≤◌, length, take, true}
-use Rattle.dl_base.specs.Outside.{Touches, Torn, overwritten}
+use Rattle.dl_base.specs.Outside.{ChangesOnly, Torn, overwritten}
 use Rattle.dl_host.specs.Hosts.{Stays}
 use Rattle.dl_host.proofs.calls.write_all.Given as goal
 
@@ -11,7 +11,7 @@ invariant-more g l =
     record {
       within : l.done ≤ length l.bytes;
       written : n.reads area ≡ overwritten l.at (take l.done l.bytes) (o.reads area);
-      crash : Touches area (Torn l.at (length l.bytes) (o.image area)) o n;
+      crash : ChangesOnly area (Torn l.at (length l.bytes) (o.image area)) o n;
       locked : (g.H.Host.hold l.host).has_lock ≡ true;
       stays : Stays (g.H.Host.hold l.initial.host) (g.H.Host.hold l.host);
     }

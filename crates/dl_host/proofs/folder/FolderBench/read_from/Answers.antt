@@ -1,7 +1,7 @@
 use Rattle.std.proofs.Common.{◌≡◌, ℕ, List, length, Option, OnOk, sym, ◌∙◌, ap, subst}
 use Rattle.std.specs.Option.{ForSome}
 use Rattle.dl_base.specs.declared.area.Area.{Area}
-use Rattle.dl_base.specs.Outside.{Touches, portion}
+use Rattle.dl_base.specs.Outside.{ChangesOnly, portion}
 use Rattle.dl_host.proofs.Loops.{touches_still}
 use Rattle.dl_host.proofs.folder.FolderBench.read_from.Goals as goal
 
@@ -31,4 +31,4 @@ returns-in-Some-clause-crash g c =
     let slot = sym c.at.ensures ∙ c.in-Some.is in
     let here : g.H.Host.area_of c.in-Some.file ≡ area = c.open.new.self.held.here area c.in-Some.file slot in
     let n = g.H.Host.outside c.read_all.new.host in
-    touches_still area (o.image area) o m n c.open.ensures.crash (subst (λ (a : Area). Touches a (m.image a) m n) here c.read_all.ensures.crash)
+    touches_still area (o.image area) o m n c.open.ensures.crash (subst (λ (a : Area). ChangesOnly a (m.image a) m n) here c.read_all.ensures.crash)

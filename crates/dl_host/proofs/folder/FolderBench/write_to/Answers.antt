@@ -1,6 +1,6 @@
 use Rattle.std.proofs.Common.{◌≡◌, ℕ, List, length, Option, OnOk, sym, ◌∙◌, ap, subst}
 use Rattle.dl_base.specs.declared.area.Area.{Area}
-use Rattle.dl_base.specs.Outside.{Touches, Torn, overwritten}
+use Rattle.dl_base.specs.Outside.{ChangesOnly, Torn, overwritten}
 use Rattle.dl_host.proofs.Idle.{torn_behind}
 use Rattle.dl_host.proofs.folder.FolderBench.write_to.Goals as goal
 
@@ -31,4 +31,4 @@ returns-in-Some-clause-crash g c =
     let slot = sym c.at.ensures ∙ c.in-Some.is in
     let here : g.H.Host.area_of c.in-Some.file ≡ area = c.open.new.self.held.here area c.in-Some.file slot in
     let n = g.H.Host.outside c.write_all.new.host in
-    torn_behind area c.args.at (length c.args.bytes.now) o m n c.open.ensures.crash (subst (λ (a : Area). Touches a (Torn c.args.at (length c.args.bytes.now) (m.image a)) m n) here c.write_all.ensures.crash)
+    torn_behind area c.args.at (length c.args.bytes.now) o m n c.open.ensures.crash (subst (λ (a : Area). ChangesOnly a (Torn c.args.at (length c.args.bytes.now) (m.image a)) m n) here c.write_all.ensures.crash)

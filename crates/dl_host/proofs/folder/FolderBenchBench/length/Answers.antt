@@ -1,5 +1,5 @@
 use Rattle.std.proofs.Common.{sym, subst, arith}
-use Rattle.dl_base.specs.Outside.{Touches}
+use Rattle.dl_base.specs.Outside.{ChangesOnly}
 use Rattle.dl_host.proofs.Counted.{touches_counted}
 use Rattle.dl_host.proofs.folder.FolderBenchBench.length.Goals as goal
 
@@ -7,4 +7,4 @@ pub returns-clause-crash : goal.returns-clause-crash
 returns-clause-crash g c =
     let o = g.H.Host.outside c.args.self.now.host in
     touches_counted c.args.area (o.image c.args.area) o (g.H.Host.outside c.counted.new.self.host) c.args.self.now.faults c.counted.new.self.faults (omega (arith, c.counted.ensures.later, c.length_of-answer.ensures.count))
-    (subst (λ (h : g.row.H.Denot). Touches c.args.area (o.image c.args.area) o (g.H.Host.outside h)) (sym c.counted.ensures.host) c.length_of-answer.ensures.crash)
+    (subst (λ (h : g.row.H.Denot). ChangesOnly c.args.area (o.image c.args.area) o (g.H.Host.outside h)) (sym c.counted.ensures.host) c.length_of-answer.ensures.crash)

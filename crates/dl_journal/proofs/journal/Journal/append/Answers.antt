@@ -1,6 +1,6 @@
 use Rattle.std.proofs.Common.{sym, subst, ap, arith}
 use Rattle.dl_base.specs.declared.area.Area.{Area}
-use Rattle.dl_base.specs.Outside.{Touches}
+use Rattle.dl_base.specs.Outside.{ChangesOnly}
 use Rattle.dl_base.proofs.Moments.{touches_then}
 use Rattle.dl_journal.specs.Extent.{Extent}
 use Rattle.dl_journal.specs.Open.{Keeps, AddsOne}
@@ -12,7 +12,7 @@ pub returns-in_err-stage-clause-images : goal.returns-in_err-stage-clause-images
 returns-in_err-stage-clause-images g c =
     let o = g.B.Bench.outside c.args.bench.now in
     let n = g.B.Bench.outside c.stage.new.bench in
-    subst (λ (a : Area). Touches a (AddsOne c.args.self.now c.args.body.now o) o n) (ap (λ (j : Extent). j.area) c.self.view_is)
+    subst (λ (a : Area). ChangesOnly a (AddsOne c.args.self.now c.args.body.now o) o n) (ap (λ (j : Extent). j.area) c.self.view_is)
     (staged_adds c.self.inside.area c.self.inside.place c.args.self.now c.args.body.now o n (ap (λ (j : Extent). j.area) c.self.view_is) (ap (λ (j : Extent). j.length) c.self.view_is) c.stage.ensures.images)
 
 pub returns-in_err-open_gate-clause-images : goal.returns-in_err-open_gate-clause-images
@@ -22,7 +22,7 @@ returns-in_err-open_gate-clause-images g c =
     let n = g.B.Bench.outside c.open_gate.new.bench in
     let at = ap (λ (j : Extent). j.area) c.self.view_is in
     let long = ap (λ (j : Extent). j.length) c.self.view_is in
-    subst (λ (a : Area). Touches a (AddsOne c.args.self.now c.args.body.now o) o n) at
+    subst (λ (a : Area). ChangesOnly a (AddsOne c.args.self.now c.args.body.now o) o n) at
     (touches_then c.self.inside.area _ o m n
     (staged_adds c.self.inside.area c.self.inside.place c.args.self.now c.args.body.now o m at long c.stage.ensures.images)
     (opened_adds c.self.inside.area c.self.inside.place c.args.self.now c.args.body.now o m n at long c.in_ok-stage.ensures.staged c.open_gate.ensures.images))
@@ -34,7 +34,7 @@ returns-clause-images g c =
     let n = g.B.Bench.outside c.open_gate.new.bench in
     let at = ap (λ (j : Extent). j.area) c.self.view_is in
     let long = ap (λ (j : Extent). j.length) c.self.view_is in
-    subst (λ (a : Area). Touches a (AddsOne c.args.self.now c.args.body.now o) o n) at
+    subst (λ (a : Area). ChangesOnly a (AddsOne c.args.self.now c.args.body.now o) o n) at
     (touches_then c.self.inside.area _ o m n
     (staged_adds c.self.inside.area c.self.inside.place c.args.self.now c.args.body.now o m at long c.stage.ensures.images)
     (opened_adds c.self.inside.area c.self.inside.place c.args.self.now c.args.body.now o m n at long c.in_ok-stage.ensures.staged c.open_gate.ensures.images))
