@@ -1,9 +1,12 @@
+pub mod Counting
 pub mod Covering
 pub mod Deciding
 pub mod Fates
+pub mod Following
 pub mod Gathered
 pub mod Leading
 pub mod Loops
+pub mod Nothing
 pub mod Numbers
 pub mod RowsTouched
 pub mod Spelled

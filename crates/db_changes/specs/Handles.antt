@@ -1,6 +1,6 @@
 -- What a copy makes of its base, as handles: dropped tables, kept ones that differ, new ones.
-use Rattle.std.specs.Prelude.{◌==◌, ◌++◌, ℕ, if◌then◌else◌, List, Option, Some, None, filter, map}
-use Rattle.std.specs.List.{filter_map}
+use Rattle.std.specs.Prelude.{◌==◌, ◌++◌, ℕ, if◌then◌else◌, Bool, true, false, IsTrue, List, [], ◌∷◌, Option, Some, None, filter, map}
+use Rattle.std.specs.List.{filter_map, list_all}
 use Rattle.db_replay.specs.declared.changes.Change.{Change}
 use Rattle.db_replay.specs.declared.changes.Change.TheVariants as changes
 use Rattle.meaning_areas.specs.Same.{same_rows}
@@ -38,3 +38,17 @@ handles base copy =
     filter_map (λ t. dropped_handle t (fate_in copy t)) base
     ++ filter_map (λ t. kept_handle t (fate_in copy t)) base
     ++ map new_handle (filter (λ t. t.1.version == 0) copy)
+
+-- handles that make a table
+abbrev pub makes : Change → Bool
+makes (changes.Dropped name) = false
+makes (changes.Kept name t) = false
+makes (changes.New name t) = true
+
+-- they stand behind all others
+abbrev pub new_last : List Change → Bool
+new_last [] = true
+new_last (c ∷ cs) = if makes c then list_all makes cs else new_last cs
+
+abbrev pub NewLast : List Change → Type 0
+NewLast cs = IsTrue (new_last cs)

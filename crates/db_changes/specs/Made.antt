@@ -1,34 +1,50 @@
--- What a transaction has made of tables: its record, and what its rows give without a scan.
-use Rattle.std.specs.Prelude.{◌≡◌, ◌∷◌, [], ℕ, Bool, List, Option, Some, None, if◌then◌else◌}
+-- What the commit of a transaction makes of the committed tables: its record, and the same as handles; and what rows give without a scan.
+use Rattle.std.specs.Prelude.{◌≡◌, ◌≤◌, ◌∷◌, [], ℕ, Bool, List, Option, Some, None, if◌then◌else◌}
 use Rattle.std.specs.List.{flat_map}
+use Rattle.dl_base.specs.Limits.{most_tables}
 use Rattle.dl_base.specs.declared.value.Row.{Row}
+use Rattle.dl_codec.specs.Layout.{whole}
 use Rattle.dl_codec.specs.Rows.{rows_record}
 use Rattle.dl_codec.specs.declared.rows.RowChange.{RowChange}
 use Rattle.dl_codec.specs.declared.rows.RowsRecord.{RowsRecord}
 use Rattle.dl_codec.specs.declared.rows.RowsRecord.TheVariants as records
+use Rattle.dl_codec.specs.declared.rows.TableChange.{TableChange}
 use Rattle.meaning_areas.specs.Same.{same_row}
-use Rattle.meaning_merge.specs.Merging.{commit_changes, removed, row_change}
-use Rattle.meaning_tables.specs.Tables.{Tables, row_of}
-use Rattle.db_changes.specs.Handles.{handles}
+use Rattle.meaning_merge.specs.Merging.{removed, row_change}
+use Rattle.meaning_tables.specs.Tables.{row_of}
+use Rattle.db_changes.specs.Handles.{NewLast}
+use Rattle.db_replay.specs.Applying.{new_in}
 use Rattle.db_replay.specs.declared.changes.Change.{Change}
 
--- A transaction's work: its number, whether it has a branch, the tables on which it began, and its copy of them.
-pub record Difference : Type 0 where
+-- Of a commit: its transaction, whether that has a branch, the changes of its record, and handles of the tables that they make.
+pub record Making : Type 0 where
   pub tx : ℕ
   pub branch : Bool
-  pub base : Tables
-  pub copy : Tables
+  pub changes : List TableChange
+  pub handles : List Change
 
 -- its record, as the commit of a number
-abbrev pub record_of : Difference → ℕ → RowsRecord
-record_of d number = records.Commit d.tx number d.branch (commit_changes d.base d.copy)
+abbrev pub record_of : Making → ℕ → RowsRecord
+record_of m number = records.Commit m.tx number m.branch m.changes
 
 -- what is kept of it: the bytes of its record as commit 0, and the handles twice
-pub record IsMade (d : Difference) (bytes : List ℕ) (committed logged : List Change) : Type 0 where
-  pub body : bytes ≡ rows_record.spelling (record_of d 0)
-  pub fits : rows_record.fits (record_of d 0)
-  pub first : committed ≡ handles d.base d.copy
-  pub second : logged ≡ handles d.base d.copy
+pub record IsMade (m : Making) (bytes : List ℕ) (logged : List Change) : Type 0 where
+  pub body : bytes ≡ rows_record.spelling (record_of m 0)
+  pub fits : rows_record.fits (record_of m 0)
+  pub again : logged ≡ m.handles
+  -- there is room for its new tables where there is room for a commit, and they stand behind the other changes
+  pub few : new_in m.handles ≤ most_tables
+  pub order : NewLast m.handles
+
+-- the changes of the commit that bytes are
+abbrev pub changes_of : Option RowsRecord → List TableChange
+changes_of None = []
+changes_of (Some (records.Opening number)) = []
+changes_of (Some (records.Commit tx number branch changes)) = changes
+changes_of (Some (records.Ended tx)) = []
+
+abbrev pub changes_in : List ℕ → List TableChange
+changes_in bytes = changes_of (whole rows_record bytes)
 
 -- the change of the row of a number, if there is one
 abbrev pub change_at : Option Row → Option Row → ℕ → List RowChange

@@ -1,7 +1,7 @@
--- Numbers of rows by the names of tables, and tables that agree beside them.
-use Rattle.std.specs.Prelude.{◌≡◌, ◌==◌, ◌&&◌, ◌||◌, ℕ, Bool, false, if◌then◌else◌, List, [], Option, Some, None, bytes_eq}
+-- Numbers of rows by the names of tables, and tables that agree beside them; copies that statements make of committed tables.
+use Rattle.std.specs.Prelude.{◌≡◌, ◌==◌, ◌&&◌, ◌||◌, ℕ, Bool, true, false, not, if◌then◌else◌, List, [], ◌∷◌, Option, Some, None, bytes_eq}
 use Rattle.std.specs.Cmp.Lexicographic.{pointwise}
-use Rattle.std.specs.List.{AllByRecursion, list_any}
+use Rattle.std.specs.List.{AllByRecursion, list_all, list_any}
 use Rattle.std.specs.List.Sorted.{IsStrictlySortedBy}
 use Rattle.std.specs.Map.{lookup}
 use Rattle.std.specs.Ordering.{nat_cmp}
@@ -52,3 +52,16 @@ numbers_at name numbers other = if bytes_eq name other then numbers else []
 pub record Leaves (name numbers : List ℕ) (before after : Tables) : Type 0 where
   pub stood : (other : List ℕ) (t : Rows) → table_of after other ≡ Some t → (t.version == 0) ≡ false → (u : Rows) × (table_of before other ≡ Some u) × ((u.version == 0) ≡ false)
   pub rows : (other : List ℕ) (u t : Rows) → table_of before other ≡ Some u → table_of after other ≡ Some t → (t.version == 0) ≡ false → Agree (numbers_at name numbers other) u.rows t.rows
+
+-- no table of theirs was just made: a version is the number of the commit that last changed the table, from 1
+abbrev pub are_committed : Tables → Bool
+are_committed tables = list_all (λ t. not (t.1.version == 0)) tables
+
+abbrev pub AreCommitted : Tables → Type 0
+AreCommitted tables = are_committed tables ≡ true
+
+-- A copy of committed tables has some of them, in their order, each of the version that it had; behind them stand those just made.
+pub data Follows : Tables → Tables → Type 0 where
+  adds : {copy : Tables} → list_all (λ t. t.1.version == 0) copy ≡ true → Follows [] copy
+  drops : {base copy : Tables} (t : List ℕ × Rows) → (t.1.version == 0) ≡ false → Follows base copy → Follows (t ∷ base) copy
+  keeps : {base copy : Tables} (t : List ℕ × Rows) (later : Rows) → (t.1.version == 0) ≡ false → later.version ≡ t.1.version → Follows base copy → Follows (t ∷ base) ((t.0, later) ∷ copy)

@@ -1,12 +1,13 @@
-// What touched rows and handles promise. The functions do nothing: they carry laws.
-ghost use Rattle.std.specs.Prelude.{◌≡◌, ◌==◌, ℕ, List, map};
+// What touched rows, copies and handles promise. The functions do nothing: they carry laws.
+ghost use Rattle.std.specs.Prelude.{◌≡◌, ◌↔◌, ◌==◌, ◌++◌, ◌∷◌, [], ℕ, List, Some, map, true};
 ghost use Rattle.std.specs.Cmp.Lexicographic.{pointwise};
 ghost use Rattle.std.specs.List.{IsDistinct};
 ghost use Rattle.db_changes.specs.Handles.{handles};
-ghost use Rattle.db_changes.specs.Touched.{Adds, Covers, Leaves, Touched};
+ghost use Rattle.db_changes.specs.Touched.{Adds, AreCommitted, Covers, Follows, Leaves, Touched};
 ghost use Rattle.db_replay.specs.Changes.{all_at_version, applied};
+ghost use Rattle.meaning_areas.specs.Same.{same_tables};
 ghost use Rattle.meaning_merge.specs.Merging.{AreNamed, merge};
-ghost use Rattle.meaning_tables.specs.Tables.{Tables};
+ghost use Rattle.meaning_tables.specs.Tables.{Rows, Tables, table_of, with_table, without_table};
 
 /// A transaction that has only begun has touched nothing: its copy is its base.
 pub fn nothing_touched_covers()
@@ -25,4 +26,19 @@ pub fn touched_rows_cover_a_change()
 pub fn handles_lead_to_merged_tables()
     ensures named { (committed base copy : Tables) (c : ℕ) → AreNamed committed → AreNamed base → applied committed (all_at_version c (handles base copy)) ≡ merge committed base copy c }
     ensures distinct { (committed base copy : Tables) (c : ℕ) → IsDistinct (pointwise ◌==◌) (map (λ t. t.0) committed) → IsDistinct (pointwise ◌==◌) (map (λ t. t.0) base) → applied committed (all_at_version c (handles base copy)) ≡ merge committed base copy c }
+{}
+
+/// Committed tables are a copy of themselves, and a statement leaves a copy: it puts a table of the same version in the place of
+/// one, or drops one, or adds one that was just made, of version 0.
+pub fn a_copy_follows_its_base()
+    ensures follows_itself { (base : Tables) → AreCommitted base → Follows base base }
+    ensures follows_after_put { (base copy : Tables) (name : List ℕ) (was now : Rows) → Follows base copy → table_of copy name ≡ Some was → now.version ≡ was.version → Follows base (with_table copy name now) }
+    ensures follows_after_drop { (base copy : Tables) (name : List ℕ) → Follows base copy → Follows base (without_table copy name) }
+    ensures follows_after_add { (base copy : Tables) (name : List ℕ) (now : Rows) → Follows base copy → now.version ≡ 0 → Follows base (copy ++ (name, now) ∷ []) }
+{}
+
+/// There is no handle exactly where a copy of committed tables is the same as they are, if no name stands twice among them.
+pub fn no_handles_where_nothing_changed()
+    ensures named { (base copy : Tables) → AreNamed base → Follows base copy → (handles base copy ≡ []) ↔ (same_tables base copy ≡ true) }
+    ensures distinct { (base copy : Tables) → IsDistinct (pointwise ◌==◌) (map (λ t. t.0) base) → Follows base copy → (handles base copy ≡ []) ↔ (same_tables base copy ≡ true) }
 {}

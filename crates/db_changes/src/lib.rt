@@ -1,5 +1,5 @@
-//! What a transaction's copy of tables differs in from its base: as the record of a commit, and as handles that are put into the
-//! committed tables.
+//! What the commit of a transaction makes of tables: as a record, and as handles that are put into the committed tables; and what a
+//! copy of tables differs in from its base.
 #![tactic(auto)]
 
 mod diff;
@@ -8,7 +8,8 @@ mod made;
 mod touched;
 
 pub use laws::{
-    handles_lead_to_merged_tables, nothing_touched_covers, touched_rows_cover_a_change,
+    a_copy_follows_its_base, handles_lead_to_merged_tables, no_handles_where_nothing_changed,
+    nothing_touched_covers, touched_rows_cover_a_change,
 };
 pub use made::Made;
 pub use touched::TouchedRows;

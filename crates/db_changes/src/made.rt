@@ -1,10 +1,13 @@
-// What a transaction has made of tables.
-ghost use Rattle.std.specs.Prelude.{◌≡◌, ◌++◌, ◌≤◌, IfOk, drop, length, take};
+// What the commit of a transaction makes of tables.
+ghost use Rattle.std.specs.Prelude.{◌≡◌, ◌==◌, ◌++◌, ◌≤◌, IfOk, drop, filter, length, take};
 ghost use Rattle.std.specs.Int.{to_be_bytes, w64};
+ghost use Rattle.dl_base.specs.Limits.{most_tables};
 ghost use Rattle.dl_codec.specs.Rows.{rows_record};
 ghost use Rattle.dl_codec.specs.declared.rows.RowsRecord.TheVariants as records;
+ghost use Rattle.db_replay.specs.Applying.{new_in};
 ghost use Rattle.db_replay.specs.Changes.{all_at_version, at_version};
-ghost use Rattle.db_changes.specs.Handles.{handles};
+ghost use Rattle.meaning_merge.specs.Merging.{commit_changes};
+ghost use Rattle.db_changes.specs.Handles.{NewLast, handles};
 ghost use Rattle.db_changes.specs.Made.{record_of};
 ghost use Rattle.db_changes.specs.Touched.{Covers};
 
@@ -12,19 +15,18 @@ use crate::TouchedRows;
 use crate::diff::{put_dropped, put_kept, put_new};
 use db_replay::Change;
 use dl_base::{Copied, List, Memory};
-use dl_codec::{RowsRecord, TableChange, put_rows_record};
+use dl_codec::{RowsRecord, TableChange, put_rows_record, rows_records_have_one_spelling};
 use sql_table::Tables;
 use std::alloc::Global;
 use std::marker::Model;
 
-/// What a transaction has made of tables, before it has a commit number: the body of its record, and handles of its tables, which
-/// share what they have with the copy. Contracts see the transaction, whether it has a branch, and the two lists of tables.
+/// What the commit of a transaction makes of tables, before it has a number: the body of its record, and handles of its tables,
+/// which share what they have with the tables that they were made of. Contracts see the transaction, whether it has a branch, the
+/// changes of the record, and the handles.
 #[derive(Drop)]
 pub struct Made {
     tx: u64,
     branch: bool,
-    base: Tables,
-    copy: Tables,
     // the record as that of commit 0
     body: List<u8>,
     handles: List<Change>,
@@ -32,21 +34,22 @@ pub struct Made {
 }
 
 impl Model for Made {
-    ghost use Rattle.db_changes.specs.Made.{Difference};
+    ghost use Rattle.db_changes.specs.Made.{Making, changes_in};
 
-    ghost Value = { Difference };
+    ghost Value = { Making };
 
-    ghost view = { λ m. record { tx = m.tx; branch = m.branch; base = m.base; copy = m.copy } };
+    ghost view = { λ m. record { tx = m.tx; branch = m.branch; changes = changes_in m.body; handles = m.handles } };
 
     ghost use Rattle.db_changes.specs.Made.{IsMade};
 
-    ghost invariant = { λ m. IsMade (record { tx = m.tx; branch = m.branch; base = m.base; copy = m.copy }) m.body m.handles m.again };
+    ghost invariant = { λ m. IsMade (record { tx = m.tx; branch = m.branch; changes = changes_in m.body; handles = m.handles }) m.body m.again };
 }
 
 impl Made {
     /// What a transaction has made of the tables of its base: its copy, in which beside new and dropped tables only touched rows
-    /// differ. The error is want of memory. The cost grows with the number of tables, with the touched rows, times the logarithm
-    /// of the rows of their tables, and with the rows of new tables.
+    /// differ, and at most 256 tables are new. The error is want of memory. The cost grows with the number of tables, with the
+    /// touched rows, times the logarithm of the rows of their tables, and with the rows of new tables.
+    #[tactic(auto, using(crate::proofs::Counting::few_new, crate::proofs::Counting::order_new, crate::proofs::Gathered::made_as))]
     pub fn new(
         alloc: Global,
         tx: u64,
@@ -56,20 +59,32 @@ impl Made {
         touched: &TouchedRows,
     ) -> Result<Made, Memory>
         requires covers { Covers touched.now base.now copy.now }
-        ensures { IfOk result (λ made. made ≡ record { tx = tx; branch = branch; base = base.now; copy = copy.now }) }
+        requires few { length (filter (λ t. t.1.version == 0) copy.now) ≤ most_tables }
+        ensures { IfOk result (λ made. made ≡ record { tx = tx; branch = branch; changes = commit_changes base.now copy.now; handles = handles base.now copy.now }) }
     {
-        let mut changes = List::empty(alloc);
-        let mut handles = List::empty(alloc);
-        put_dropped(&mut changes, &mut handles, base, copy)?;
-        put_kept(&mut changes, &mut handles, base, copy, touched)?;
-        put_new(&mut changes, &mut handles, copy)?;
+        let (changes, handles) = differences(alloc, base, copy, touched)?;
+        Made::of(alloc, tx, branch, changes, handles)
+    }
+
+    /// The commit of a record's changes, and of handles of the tables that they make: at most 256 of these are new, and stand behind
+    /// all other handles. The error is want of memory. The cost grows with the bytes of the record and with the number of handles.
+    pub fn of(
+        alloc: Global,
+        tx: u64,
+        branch: bool,
+        changes: List<TableChange>,
+        handles: List<Change>,
+    ) -> Result<Made, Memory>
+        requires few { new_in handles ≤ most_tables }
+        requires order { NewLast handles }
+        ensures { IfOk result (λ made. made ≡ record { tx = tx; branch = branch; changes = changes; handles = handles }) }
+    {
+        rows_records_have_one_spelling();
         let body = body_of(alloc, tx, branch, changes)?;
         let again = copies(&handles)?;
         Ok(Made {
             tx,
             branch,
-            base: base.copy()?,
-            copy: copy.copy()?,
             body,
             handles,
             again,
@@ -90,13 +105,24 @@ impl Made {
         self.branch
     }
 
+    /// Whether it changes nothing. It takes no memory.
+    pub fn is_empty(&self) -> bool
+        ensures { result ≡ (length self.now.handles == 0) }
+    {
+        self.handles.len() == 0
+    }
+
     /// The body of the record of this commit, and the handles of its tables with its number as version, twice: for the committed
     /// tables, and for the log of commits. It takes no memory, and costs no row.
     pub fn parts(self, number: u64) -> (List<u8>, List<Change>, List<Change>)
         ensures body { result.0 ≡ rows_record.spelling (record_of self number) }
         ensures fits { rows_record.fits (record_of self number) }
-        ensures handles { result.1 ≡ all_at_version number (handles self.base self.copy) }
-        ensures again { result.2 ≡ all_at_version number (handles self.base self.copy) }
+        ensures handles { result.1 ≡ all_at_version number self.handles }
+        ensures again { result.2 ≡ all_at_version number self.handles }
+
+        // At most 256 of its tables are new, and stand behind all others.
+        ensures few { new_in self.handles ≤ most_tables }
+        ensures order { NewLast self.handles }
     {
         let Made {
             body,
@@ -110,6 +136,25 @@ impl Made {
             with_version(again, number),
         )
     }
+}
+
+// What a copy differs in from its base, as changes and as handles.
+fn differences(
+    alloc: Global,
+    base: &Tables,
+    copy: &Tables,
+    touched: &TouchedRows,
+) -> Result<(List<TableChange>, List<Change>), Memory>
+    requires { Covers touched.now base.now copy.now }
+    ensures changes { IfOk result (λ made. made.0 ≡ commit_changes base.now copy.now) }
+    ensures handles { IfOk result (λ made. made.1 ≡ handles base.now copy.now) }
+{
+    let mut changes = List::empty(alloc);
+    let mut handles = List::empty(alloc);
+    put_dropped(&mut changes, &mut handles, base, copy)?;
+    put_kept(&mut changes, &mut handles, base, copy, touched)?;
+    put_new(&mut changes, &mut handles, copy)?;
+    Ok((changes, handles))
 }
 
 // The body of a record of commit 0.

@@ -1,20 +1,22 @@
 -- What the fold asks of the commit of what a transaction has made.
-use Rattle.std.proofs.Common.{◌≡◌, ℕ, ◌+◌, ◌/◌, ◌^◌, ◌==◌, ◌&&◌, Bool, true, false, cond, List, [], ◌∷◌, ◌++◌, length, Option, Some, None, is_none, refl, sym, ap, subst, ◌∙◌}
+use Rattle.std.proofs.Common.{◌≡◌, ℕ, ◌+◌, ◌/◌, ◌≤◌, ◌^◌, ◌==◌, ◌&&◌, Bool, true, false, cond, List, [], ◌∷◌, ◌++◌, length, Option, Some, None, is_none, refl, sym, ap, subst, ◌∙◌, arith}
 use Rattle.std.proofs.lemmas.Bool.{and_parts}
-use Rattle.dl_codec.specs.declared.rows.TableChange.{TableChange}
+use Rattle.dl_base.specs.Limits.{most_tables}
 use Rattle.meaning_areas.specs.Commits.{Commit, Commits, commit_of, commit_to, fitting, tables_after, with_commit, with_table_changes}
-use Rattle.meaning_merge.specs.Merging.{AreNamed, commit_changes, merge}
+use Rattle.meaning_merge.specs.Merging.{AreNamed}
 use Rattle.meaning_tables.specs.Fits.{fits}
 use Rattle.meaning_tables.specs.Tables.{Tables}
-use Rattle.db_changes.specs.Handles.{handles}
-use Rattle.db_changes.specs.Made.{Difference}
-use Rattle.db_replay.specs.Applying.{are_new}
+use Rattle.db_changes.specs.Handles.{NewLast}
+use Rattle.db_changes.specs.Made.{Making}
+use Rattle.db_changes.specs.Touched.{AreCommitted}
+use Rattle.db_replay.specs.Applying.{are_new, new_in}
 use Rattle.db_replay.specs.Changes.{all_at_version, applied}
 use Rattle.db_replay.specs.declared.changes.Change.{Change}
 use Rattle.db_store.proofs.LogLaws.{after-push, none_there}
-use Rattle.db_store.proofs.Named.{all-named, changes-named, handles-new}
-use Rattle.db_store.specs.Log.{all_new, commits_from}
-use Rattle.db_store.specs.Store.{IsTaken, committed_with, merged_with}
+use Rattle.db_store.proofs.Named.{all-named, changes-named, last-new, version-count, version-last}
+use Rattle.db_store.proofs.Versions.{after-committed, changes-committed, push-committed}
+use Rattle.db_store.specs.Log.{AllCommitted, all_new, commits_from}
+use Rattle.db_store.specs.Store.{IsTaken, applied_with, committed_with}
 use Rattle.db_store.specs.declared.log.Entry.{Entry}
 
 some-none : {A : Type 0} (t : A) → None ≡ Some t → ⊥
@@ -30,37 +32,37 @@ log-named before (e ∷ es) named new =
     let parts = and_parts (are_new before e.1.changes) (all_new (applied before e.1.changes) es) new in
     log-named (applied before e.1.changes) es (all-named before e.1.changes named parts.0) parts.1
 
-module _ (r : Commits) (d : Difference) where
+module _ (r : Commits) (m : Making) where
   abbrev number : ℕ
   number = length r.commits + 1
 
   abbrev last : Tables
   last = tables_after [] r.commits
 
-  abbrev made : List TableChange
-  made = commit_changes d.base d.copy
+  abbrev hands : List Change
+  hands = all_at_version number m.handles
 
   abbrev leading : Tables → Commits
-  leading t = with_commit r (commit_to r.commits d.tx d.branch t)
+  leading t = with_commit r (commit_to r.commits m.tx m.branch t)
 
-  taken-by : (b : Bool) (o : Option Tables) → cond b (fitting r d.tx d.branch o) None ≡ Some (leading (merged_with r d)) → (b ≡ true) × (o ≡ Some (merged_with r d))
-  taken-by false o e = absurd (some-none (leading (merged_with r d)) e)
-  taken-by true None e = absurd (some-none (leading (merged_with r d)) e)
+  taken-by : (b : Bool) (o : Option Tables) → cond b (fitting r m.tx m.branch o) None ≡ Some (leading (applied_with r m)) → (b ≡ true) × (o ≡ Some (applied_with r m))
+  taken-by false o e = absurd (some-none (leading (applied_with r m)) e)
+  taken-by true None e = absurd (some-none (leading (applied_with r m)) e)
   taken-by true (Some u) e = (refl, by (fits u) e)
     where
-      by : (f : Bool) → cond f (Some (leading u)) None ≡ Some (leading (merged_with r d)) → Some u ≡ Some (merged_with r d)
-      by false is = absurd (some-none (leading (merged_with r d)) is)
+      by : (f : Bool) → cond f (Some (leading u)) None ≡ Some (leading (applied_with r m)) → Some u ≡ Some (applied_with r m)
+      by false is = absurd (some-none (leading (applied_with r m)) is)
       by true is = ap (λ (t : Tables). Some t) (
-          sym (after-push [] r.commits (commit_to r.commits d.tx d.branch u))
-          ∙ ap (λ (x : Commits). tables_after [] x.commits) (some-same (leading u) (leading (merged_with r d)) is)
-          ∙ after-push [] r.commits (commit_to r.commits d.tx d.branch (merged_with r d)))
+          sym (after-push [] r.commits (commit_to r.commits m.tx m.branch u))
+          ∙ ap (λ (x : Commits). tables_after [] x.commits) (some-same (leading u) (leading (applied_with r m)) is)
+          ∙ after-push [] r.commits (commit_to r.commits m.tx m.branch (applied_with r m)))
 
-  parts : IsTaken r d → (((number == length r.commits + 1) && is_none (commit_of d.tx r.commits) && (d.tx / 2 ^ 32 == r.opening)) ≡ true) × (with_table_changes number last made ≡ Some (merged_with r d))
-  parts taken = taken-by ((number == length r.commits + 1) && is_none (commit_of d.tx r.commits) && (d.tx / 2 ^ 32 == r.opening)) (with_table_changes number last made) taken
+  parts : IsTaken r m → (((number == length r.commits + 1) && is_none (commit_of m.tx r.commits) && (m.tx / 2 ^ 32 == r.opening)) ≡ true) × (with_table_changes number last m.changes ≡ Some (applied_with r m))
+  parts taken = taken-by ((number == length r.commits + 1) && is_none (commit_of m.tx r.commits) && (m.tx / 2 ^ 32 == r.opening)) (with_table_changes number last m.changes) taken
 
   -- its transaction has no commit yet
-  pub taken_none : IsTaken r d → commit_of d.tx r.commits ≡ None
-  taken_none taken = none_there (commit_of d.tx r.commits) (middle (number == length r.commits + 1) (is_none (commit_of d.tx r.commits)) (d.tx / 2 ^ 32 == r.opening) (parts taken).0)
+  pub taken_none : IsTaken r m → commit_of m.tx r.commits ≡ None
+  taken_none taken = none_there (commit_of m.tx r.commits) (middle (number == length r.commits + 1) (is_none (commit_of m.tx r.commits)) (m.tx / 2 ^ 32 == r.opening) (parts taken).0)
     where
       middle : (a b e : Bool) → (a && b && e) ≡ true → b ≡ true
       middle true true e is = refl
@@ -68,36 +70,50 @@ module _ (r : Commits) (d : Difference) where
       middle false b e is = cc is
 
   -- each new table of its handles is new when its turn comes
-  pub taken_new : (es : List (ℕ × Entry)) → r.commits ≡ commits_from [] es → all_new [] es ≡ true → AreNamed d.base → IsTaken r d
-      → ((committed base copy : Tables) (c : ℕ) → AreNamed committed → AreNamed base → applied committed (all_at_version c (handles base copy)) ≡ merge committed base copy c)
-      → (are_new last (all_at_version number (handles d.base d.copy)) ≡ true) × (applied last (all_at_version number (handles d.base d.copy)) ≡ merged_with r d)
-  taken_new es is all bases taken law =
+  taken_new : (es : List (ℕ × Entry)) → r.commits ≡ commits_from [] es → all_new [] es ≡ true → NewLast m.handles → IsTaken r m → are_new last hands ≡ true
+  taken_new es is all order taken =
       let named : AreNamed last = subst (λ (cs : List Commit). AreNamed (tables_after [] cs)) (sym is) (log-named [] es tt all) in
-      let leads = law last d.base d.copy number named bases in
-      (handles-new d.copy number last d.base (subst (λ (ts : Tables). AreNamed ts) (sym leads) (changes-named number made last (merged_with r d) named (parts taken).1)), leads)
+      last-new hands last (version-last number m.handles ∙ order) (changes-named number m.changes last (applied_with r m) named (parts taken).1)
+
+  -- no table behind it was just made
+  taken_committed : AllCommitted r.commits → IsTaken r m → AreCommitted (applied_with r m)
+  taken_committed each taken = changes-committed number (omega arith) m.changes last (applied_with r m) (after-committed [] r.commits refl each) (parts taken).1
 
   -- by what is open of a store
 
-  pub handles_new : (es : List (ℕ × Entry)) (opening : ℕ) (ended : List ℕ) → record { opening = opening; commits = commits_from [] es; ended = ended } ≡ r → all_new [] es ≡ true → AreNamed d.base → IsTaken r d
-      → ((committed base copy : Tables) (c : ℕ) → AreNamed committed → AreNamed base → applied committed (all_at_version c (handles base copy)) ≡ merge committed base copy c)
-      → (was : Tables) (n : ℕ) (hs : List Change) → was ≡ tables_after [] (commits_from [] es) → n ≡ length (commits_from [] es) → hs ≡ all_at_version (n + 1) (handles d.base d.copy)
-      → (are_new was hs ≡ true) × (applied was hs ≡ merged_with r d)
-  handles_new es opening ended is all bases taken law was n hs at count made =
-      let same : commits_from [] es ≡ r.commits = ap (λ (x : Commits). x.commits) is in
-      let two = taken_new es (sym same) all bases taken law in
-      let hs-is : hs ≡ all_at_version number (handles d.base d.copy) = made ∙ ap (λ (k : ℕ). all_at_version (k + 1) (handles d.base d.copy)) (count ∙ ap (λ (cs : List Commit). length cs) same) in
-      let was-is : was ≡ last = at ∙ ap (λ (cs : List Commit). tables_after [] cs) same in (
-        ap (λ (cs : List Change). are_new was cs) hs-is ∙ ap (λ (ts : Tables). are_new ts (all_at_version number (handles d.base d.copy))) was-is ∙ two.0,
-        ap (λ (cs : List Change). applied was cs) hs-is ∙ ap (λ (ts : Tables). applied ts (all_at_version number (handles d.base d.copy))) was-is ∙ two.1,
-      )
+  module _ (es : List (ℕ × Entry)) (opening : ℕ) (ended : List ℕ) (is : record { opening = opening; commits = commits_from [] es; ended = ended } ≡ r) (taken : IsTaken r m) where
+    same : commits_from [] es ≡ r.commits
+    same = ap (λ (x : Commits). x.commits) is
 
-  pub commits_with : (cs more : List Commit) (opening : ℕ) (ended : List ℕ) → record { opening = opening; commits = cs; ended = ended } ≡ r
-      → (tx : ℕ) (branch : Bool) (tables : Tables) → more ≡ cs ++ commit_to cs tx branch tables ∷ [] → tx ≡ d.tx → branch ≡ d.branch → tables ≡ merged_with r d
-      → record { opening = opening; commits = more; ended = ended } ≡ committed_with r d
-  commits_with cs more opening ended is tx branch tables grown tx-is branch-is tables-is =
-      ap (λ (l : List Commit). record { opening = opening; commits = l; ended = ended }) (
-      grown
-      ∙ ap (λ (x : ℕ). cs ++ commit_to cs x branch tables ∷ []) tx-is
-      ∙ ap (λ (x : Bool). cs ++ commit_to cs d.tx x tables ∷ []) branch-is
-      ∙ ap (λ (x : Tables). cs ++ commit_to cs d.tx d.branch x ∷ []) tables-is)
-      ∙ ap (λ (x : Commits). with_commit x (commit_to x.commits d.tx d.branch (merged_with r d))) is
+    module _ (was : Tables) (n : ℕ) (hs : List Change) (at : was ≡ tables_after [] (commits_from [] es)) (count : n ≡ length (commits_from [] es)) (made : hs ≡ all_at_version (n + 1) m.handles) where
+      hs-is : hs ≡ hands
+      hs-is = made ∙ ap (λ (k : ℕ). all_at_version (k + 1) m.handles) (count ∙ ap (λ (cs : List Commit). length cs) same)
+
+      was-is : was ≡ last
+      was-is = at ∙ ap (λ (cs : List Commit). tables_after [] cs) same
+
+      pub handles_new : all_new [] es ≡ true → NewLast m.handles → are_new was hs ≡ true
+      handles_new all order = ap (λ (cs : List Change). are_new was cs) hs-is ∙ ap (λ (ts : Tables). are_new ts hands) was-is ∙ taken_new es (sym same) all order taken
+
+      pub handles_few : new_in m.handles ≤ most_tables → new_in hs ≤ most_tables
+      handles_few few = let more = ap new_in made ∙ version-count (n + 1) m.handles in omega (arith, few, more)
+
+      leads : applied was hs ≡ applied_with r m
+      leads = ap (λ (cs : List Change). applied was cs) hs-is ∙ ap (λ (ts : Tables). applied ts hands) was-is
+
+      module _ (tx : ℕ) (branch : Bool) (more : List Commit) (grown : more ≡ commits_from [] es ++ commit_to (commits_from [] es) tx branch (applied was hs) ∷ []) where
+        pub commits_with : tx ≡ m.tx → branch ≡ m.branch → record { opening = opening; commits = more; ended = ended } ≡ committed_with r m
+        commits_with tx-is branch-is =
+            let cs = commits_from [] es in
+            ap (λ (l : List Commit). record { opening = opening; commits = l; ended = ended }) (
+            grown
+            ∙ ap (λ (x : ℕ). cs ++ commit_to cs x branch (applied was hs) ∷ []) tx-is
+            ∙ ap (λ (x : Bool). cs ++ commit_to cs m.tx x (applied was hs) ∷ []) branch-is
+            ∙ ap (λ (x : Tables). cs ++ commit_to cs m.tx m.branch x ∷ []) leads)
+            ∙ ap (λ (x : Commits). with_commit x (commit_to x.commits m.tx m.branch (applied_with r m))) is
+
+        pub commits_committed : AllCommitted (commits_from [] es) → AllCommitted more
+        commits_committed each =
+            subst (λ (cs : List Commit). AllCommitted cs) (sym grown)
+            (push-committed (commits_from [] es) (commit_to (commits_from [] es) tx branch (applied was hs)) each
+            (subst (λ (ts : Tables). AreCommitted ts) (sym leads) (taken_committed (subst (λ (cs : List Commit). AllCommitted cs) same each) taken)))

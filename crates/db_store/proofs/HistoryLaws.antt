@@ -1,9 +1,8 @@
 -- What the fold makes of a record, by what is asked of it.
-use Rattle.std.proofs.Common.{◌≡◌, ℕ, ◌+◌, ◌/◌, ◌^◌, ◌==◌, ◌&&◌, Bool, true, false, not, cond, List, [], ◌∷◌, ◌++◌, length, Option, Some, None, is_none, nat_eq, refl, sym, ap, ◌∙◌}
+use Rattle.std.proofs.Common.{◌≡◌, ℕ, ◌+◌, ◌/◌, ◌<◌, ◌^◌, ◌==◌, ◌&&◌, Bool, true, false, not, cond, List, [], ◌∷◌, ◌++◌, length, Option, Some, None, is_none, nat_eq, refl, sym, ap, ◌∙◌, arith}
 use Rattle.std.proofs.lemmas.Bool.{eq-eqb, ne_eqb}
-use Rattle.std.specs.List.{list_any}
+use Rattle.std.proofs.lemmas.Bool.Decides.{nat_tests}
 use Rattle.std.specs.Option.{option_map}
-use Rattle.indexmap.specs.IndexSet.{insert_key}
 use Rattle.dl_codec.specs.declared.rows.TableChange.{TableChange}
 use Rattle.meaning_areas.specs.Commits.{Commit, Commits, commit_of, commit_to, commits_on, ends_on, fitting, has_number, opens_on, tables_after, with_commit, with_ended, with_table_changes}
 use Rattle.meaning_tables.specs.Fits.{fits}
@@ -13,7 +12,7 @@ use Rattle.std.specs.Map.{lookup}
 use Rattle.db_replay.specs.Applying.{are_new}
 use Rattle.db_replay.specs.Changes.{applied}
 use Rattle.db_replay.specs.declared.changes.Change.{Change}
-use Rattle.db_store.proofs.LogLaws.{none_yet, number-among, one-after, one-committed, one-new}
+use Rattle.db_store.proofs.LogLaws.{none_yet, one-after, one-committed, one-new}
 use Rattle.db_store.specs.Log.{all_new, commits_from, has_branch}
 use Rattle.db_store.specs.declared.log.Entry.{Entry}
 
@@ -33,7 +32,7 @@ module _ (r : Commits) (opening number : ℕ) (cs : List Commit) (ended : List �
 -- an end of a branch
 
 module _ (r : Commits) (tx : ℕ) where
-  ends-by : (o : Option Commit) → ends_on r tx o ≡ cond (has_branch o && not (has_number tx r.ended)) (Some (with_ended r tx)) None
+  pub ends-by : (o : Option Commit) → ends_on r tx o ≡ cond (has_branch o && not (has_number tx r.ended)) (Some (with_ended r tx)) None
   ends-by None = refl
   ends-by (Some c) = refl
 
@@ -41,20 +40,12 @@ module _ (r : Commits) (tx : ℕ) where
   ends_no e = ends-by (commit_of tx r.commits) ∙ ap (λ b. cond b (Some (with_ended r tx)) None) e
 
   pub ends_yes : (opening : ℕ) (cs : List Commit) (ended more : List ℕ) → record { opening = opening; commits = cs; ended = ended } ≡ r
-      → (has_branch (commit_of tx r.commits) && not (has_number tx r.ended)) ≡ true → more ≡ insert_key nat_eq ended tx
+      → (has_branch (commit_of tx r.commits) && not (has_number tx r.ended)) ≡ true → more ≡ ended ++ tx ∷ []
       → ends_on r tx (commit_of tx r.commits) ≡ Some (record { opening = opening; commits = cs; ended = more })
-  ends_yes opening cs ended more is e put =
-      let none : has_number tx r.ended ≡ false = only (has_branch (commit_of tx r.commits)) (has_number tx r.ended) e in
-      let absent : list_any (λ k. nat_eq tx k) ended ≡ false = sym (number-among tx ended) ∙ ap (λ (x : Commits). has_number tx x.ended) is ∙ none in
-      let grown : more ≡ ended ++ tx ∷ [] = put ∙ ap (λ b. cond b ended (ended ++ tx ∷ [])) absent in
+  ends_yes opening cs ended more is e grown =
       ends-by (commit_of tx r.commits) ∙ ap (λ b. cond b (Some (with_ended r tx)) None) e
       ∙ ap (λ (x : Commits). Some (with_ended x tx)) (sym is)
       ∙ ap (λ (l : List ℕ). Some (record { opening = opening; commits = cs; ended = l })) (sym grown)
-    where
-      only : (a b : Bool) → (a && not b) ≡ true → b ≡ false
-      only true false e = refl
-      only true true e = cc e
-      only false b e = cc e
 
 -- a commit
 
@@ -100,6 +91,17 @@ module _ (r : Commits) (tx number : ℕ) (branch : Bool) (made : List TableChang
       ∙ ap (λ (x : Commits). Some (with_commit x (commit_to x.commits tx branch later))) (sym is)
       ∙ ap (λ (cs : List Commit). Some (record { opening = opening; commits = cs; ended = ended }))
       (sym (ap (λ (l : List (ℕ × Entry)). commits_from [] l) grown ∙ one-committed es (tx, record { branch = branch; changes = handles }) was later at leads))
+
+-- a commit's number is above 0
+pub next_above : (r : Commits) (tx number : ℕ) → ((number == length r.commits + 1) && is_none (commit_of tx r.commits) && (tx / 2 ^ 32 == r.opening)) ≡ true → 0 < number
+next_above r tx number e = at-least (first (number == length r.commits + 1) (is_none (commit_of tx r.commits)) (tx / 2 ^ 32 == r.opening) e)
+  where
+    first : (a b d : Bool) → (a && b && d) ≡ true → a ≡ true
+    first true b d e = refl
+    first false b d e = cc e
+
+    at-least : (number == length r.commits + 1) ≡ true → 0 < number
+    at-least is = grind (arith, nat_tests)
 
 pub none_open : (r : Commits) (tx number opening : ℕ) (es : List (ℕ × Entry)) (ended : List ℕ) → record { opening = opening; commits = commits_from [] es; ended = ended } ≡ r
     → ((number == length r.commits + 1) && is_none (commit_of tx r.commits) && (tx / 2 ^ 32 == r.opening)) ≡ true → lookup (λ k. nat_eq tx k) es ≡ None

@@ -1,5 +1,6 @@
 pub mod Alone
 pub mod Committing
+pub mod Ending
 pub mod Folding
 pub mod HistoryLaws
 pub mod Left
@@ -7,3 +8,4 @@ pub mod LogLaws
 pub mod Named
 pub mod Numbers
 pub mod Room
+pub mod Versions

@@ -5,6 +5,7 @@ use Rattle.std.proofs.lemmas.Cmp.{nat_eq_equiv}
 use Rattle.std.specs.List.{list_any, slice_get}
 use Rattle.std.specs.Map.{lookup}
 use Rattle.std.specs.Option.{option_map}
+use Rattle.indexmap.specs.IndexSet.{insert_key}
 use Rattle.db_replay.specs.Applying.{are_new}
 use Rattle.db_replay.specs.Changes.{applied}
 use Rattle.meaning_areas.specs.Commits.{Commit, commit_of, commit_to, has_number, tables_after}
@@ -140,6 +141,9 @@ number-among tx (k ∷ ks) = by (nat_eq k tx) (nat_eq tx k) (nat_eq_equiv.symm k
     by true false same go = cc same
     by false true same go = cc same
     by false false same go = go
+
+pub number_put : (tx : ℕ) (ks more : List ℕ) → more ≡ insert_key nat_eq ks tx → has_number tx ks ≡ false → more ≡ ks ++ tx ∷ []
+number_put tx ks more put none = put ∙ ap (λ b. cond b ks (ks ++ tx ∷ [])) (sym (number-among tx ks) ∙ none)
 
 -- the tables after some of the commits, one entry after another
 pub past-none : (before : Tables) (es : List (ℕ × Entry)) (n : ℕ) → length es < n → past before (commits_from before es) n ≡ None

@@ -1,20 +1,20 @@
 -- Names of tables after changes: each new table is new when its turn comes.
-use Rattle.std.proofs.Common.{◌≡◌, ◌⊎◌, inl, inr, ℕ, ◌+◌, ◌==◌, Bool, true, false, cond, bytes_eq, List, [], ◌∷◌, ◌++◌, filter, length, map, Option, Some, None, is_none, refl, sym, ap, subst, ◌∙◌, arith}
-use Rattle.std.specs.Cmp.Lexicographic.{pointwise, nat_list_eq_equiv}
-use Rattle.std.specs.List.{AllByRecursion, IsDistinct, cons_option, filter_map}
+use Rattle.std.proofs.Common.{◌≡◌, ◌⊎◌, inl, inr, ℕ, ◌+◌, Bool, true, false, cond, bytes_eq, List, [], ◌∷◌, ◌++◌, Option, Some, None, is_none, refl, sym, ap, subst, ◌∙◌}
+use Rattle.std.specs.Cmp.Lexicographic.{nat_list_eq_equiv}
+use Rattle.std.specs.List.{list_all}
 use Rattle.std.specs.Option.{option_and_then}
 use Rattle.std.proofs.lemmas.Bool.{and_from, and_parts}
-use Rattle.std.proofs.lemmas.List.{append-nil, append_assoc, map-append}
+use Rattle.std.proofs.lemmas.List.{append-nil, append_assoc}
 use Rattle.dl_codec.specs.declared.rows.TableChange.{TableChange}
 use Rattle.dl_codec.specs.declared.rows.TableChange.TheVariants as changes
 use Rattle.meaning_areas.specs.Commits.{add_table, drop_table, kept_table, new_table, put_table, with_table_change, with_table_changes}
 use Rattle.meaning_merge.proofs.Committed.{append-named}
 use Rattle.meaning_merge.proofs.Keeping.{name-same, past-head}
-use Rattle.meaning_merge.specs.Merging.{AreNamed, Fate, as_version, becomes, goes, stays}
+use Rattle.meaning_merge.specs.Merging.{AreNamed}
 use Rattle.meaning_tables.specs.Tables.{Rows, Tables, table_of, with_table, without_table}
-use Rattle.db_changes.specs.Handles.{dropped_handle, fate_in, handles, kept_handle, new_handle}
+use Rattle.db_changes.specs.Handles.{makes, new_last}
 use Rattle.db_replay.specs.Applying.{are_new, is_new, new_in}
-use Rattle.db_replay.specs.Changes.{all_at_version, applied, apply, at_version}
+use Rattle.db_replay.specs.Changes.{all_at_version, applied, apply}
 use Rattle.db_replay.specs.declared.changes.Change.{Change}
 use Rattle.db_replay.specs.declared.changes.Change.TheVariants as dones
 
@@ -38,15 +38,6 @@ absent t ts name e = by (bytes_eq name t.0) e
 
 absent-more : (t : List ℕ × Rows) (ts : Tables) (name : List ℕ) → bytes_eq name t.0 ≡ false → table_of ts name ≡ None → table_of (t ∷ ts) name ≡ None
 absent-more t ts name other none = past-head t ts name other ∙ none
-
-pub distinct-named : (ts : Tables) → IsDistinct (pointwise ◌==◌) (map (λ t. t.0) ts) → AreNamed ts
-unfolding IsDistinct
-distinct-named [] distinct = tt
-distinct-named (t ∷ ts) distinct = (none ts distinct.0, distinct-named ts distinct.1)
-  where
-    none : (us : Tables) → AllByRecursion (λ y. pointwise ◌==◌ t.0 y ≡ false) (map (λ u. u.0) us) → table_of us t.0 ≡ None
-    none [] all = refl
-    none (u ∷ us) all = absent-more u us t.0 all.0 (none us all.1)
 
 -- names after a change
 
@@ -150,110 +141,53 @@ behind (x ∷ xs) rest t named = absent-more x xs t.0 (other xs named.0) (behind
     other [] none = other-way x.0 t.0 (absent t rest x.0 none).0
     other (y ∷ ys) none = other ys (absent y (ys ++ t ∷ rest) x.0 none).1
 
--- handles: only the last ones make tables
+-- changes of which the last alone make tables
 
-are-new-append : (ts : Tables) (cs ds : List Change) → are_new ts cs ≡ true → are_new (applied ts cs) ds ≡ true → are_new ts (cs ++ ds) ≡ true
-are-new-append ts [] ds first then = then
-are-new-append ts (c ∷ cs) ds first then =
-    let parts = and_parts (is_new ts c) (are_new (apply ts c) cs) first in
-    and_from (is_new ts c) (are_new (apply ts c) (cs ++ ds)) parts.0 (are-new-append (apply ts c) cs ds parts.1 then)
+abbrev added : List Change → Tables
+added [] = []
+added (dones.Dropped name ∷ cs) = added cs
+added (dones.Kept name t ∷ cs) = added cs
+added (dones.New name t ∷ cs) = (name, t) ∷ added cs
 
-applied-append : (ts : Tables) (cs ds : List Change) → applied ts (cs ++ ds) ≡ applied (applied ts cs) ds
-applied-append ts [] ds = refl
-applied-append ts (c ∷ cs) ds = applied-append (apply ts c) cs ds
+all-added : (cs : List Change) (ts : Tables) → list_all makes cs ≡ true → applied ts cs ≡ ts ++ added cs
+all-added [] ts all = sym (append-nil ts)
+all-added (dones.Dropped name ∷ cs) ts all = absurd cc
+all-added (dones.Kept name t ∷ cs) ts all = absurd cc
+all-added (dones.New name t ∷ cs) ts all = all-added cs (ts ++ (name, t) ∷ []) all ∙ append_assoc ts ((name, t) ∷ []) (added cs)
 
-new-in-append : (cs ds : List Change) → new_in (cs ++ ds) ≡ new_in cs + new_in ds
-new-in-append [] ds = omega arith
-new-in-append (c ∷ cs) ds = omega (arith, new-in-append cs ds)
+all-new : (cs : List Change) (ts : Tables) → list_all makes cs ≡ true → AreNamed (applied ts cs) → are_new ts cs ≡ true
+all-new [] ts all named = refl
+all-new (dones.Dropped name ∷ cs) ts all named = absurd cc
+all-new (dones.Kept name t ∷ cs) ts all named = absurd cc
+all-new (dones.New name t ∷ cs) ts all named =
+    let split : AreNamed (ts ++ (name, t) ∷ added cs) = subst (λ (us : Tables). AreNamed us) (all-added cs (ts ++ (name, t) ∷ []) all ∙ append_assoc ts ((name, t) ∷ []) (added cs)) named in
+    and_from (is_none (table_of ts name)) (are_new (ts ++ (name, t) ∷ []) cs)
+    (ap (λ (o : Option Rows). is_none o) (behind ts (added cs) (name, t) split))
+    (all-new cs (ts ++ (name, t) ∷ []) all named)
 
-module _ (copy : Tables) (v : ℕ) where
-  abbrev dropped : Tables → List Change
-  dropped bs = filter_map (λ t. dropped_handle t (fate_in copy t)) bs
+-- they lead to tables of different names only where each new one is new when its turn comes
+pub last-new : (cs : List Change) (ts : Tables) → new_last cs ≡ true → AreNamed (applied ts cs) → are_new ts cs ≡ true
+last-new [] ts last named = refl
+last-new (dones.Dropped name ∷ cs) ts last named = last-new cs (without_table ts name) last named
+last-new (dones.Kept name t ∷ cs) ts last named = last-new cs (with_table ts name t) last named
+last-new (dones.New name t ∷ cs) ts last named = all-new (dones.New name t ∷ cs) ts last named
 
-  abbrev kept : Tables → List Change
-  kept bs = filter_map (λ t. kept_handle t (fate_in copy t)) bs
+-- of any version
 
-  dropped-new : (bs ts : Tables) → are_new ts (all_at_version v (dropped bs)) ≡ true
-  dropped-new [] ts = refl
-  dropped-new (b ∷ bs) ts = by (fate_in copy b) (λ us. dropped-new bs us)
-    where
-      by : (f : Fate) → ((us : Tables) → are_new us (all_at_version v (dropped bs)) ≡ true) → are_new ts (all_at_version v (cons_option (dropped_handle b f) (dropped bs))) ≡ true
-      by stays go = go ts
-      by (becomes later) go = go ts
-      by goes go = go (without_table ts b.0)
+version-all : (v : ℕ) (cs : List Change) → list_all makes (all_at_version v cs) ≡ list_all makes cs
+version-all v [] = refl
+version-all v (dones.Dropped name ∷ cs) = refl
+version-all v (dones.Kept name t ∷ cs) = refl
+version-all v (dones.New name t ∷ cs) = version-all v cs
 
-  kept-new : (bs ts : Tables) → are_new ts (all_at_version v (kept bs)) ≡ true
-  kept-new [] ts = refl
-  kept-new (b ∷ bs) ts = by (fate_in copy b) (λ us. kept-new bs us)
-    where
-      by : (f : Fate) → ((us : Tables) → are_new us (all_at_version v (kept bs)) ≡ true) → are_new ts (all_at_version v (cons_option (kept_handle b f) (kept bs))) ≡ true
-      by stays go = go ts
-      by goes go = go ts
-      by (becomes later) go = go (with_table ts b.0 (as_version v later))
+pub version-last : (v : ℕ) (cs : List Change) → new_last (all_at_version v cs) ≡ new_last cs
+version-last v [] = refl
+version-last v (dones.Dropped name ∷ cs) = version-last v cs
+version-last v (dones.Kept name t ∷ cs) = version-last v cs
+version-last v (dones.New name t ∷ cs) = version-all v cs
 
-  dropped-none : (bs : Tables) → new_in (all_at_version v (dropped bs)) ≡ 0
-  dropped-none [] = refl
-  dropped-none (b ∷ bs) = by (fate_in copy b) (dropped-none bs)
-    where
-      by : (f : Fate) → new_in (all_at_version v (dropped bs)) ≡ 0 → new_in (all_at_version v (cons_option (dropped_handle b f) (dropped bs))) ≡ 0
-      by stays go = go
-      by (becomes later) go = go
-      by goes go = omega (arith, go)
-
-  kept-none : (bs : Tables) → new_in (all_at_version v (kept bs)) ≡ 0
-  kept-none [] = refl
-  kept-none (b ∷ bs) = by (fate_in copy b) (kept-none bs)
-    where
-      by : (f : Fate) → new_in (all_at_version v (kept bs)) ≡ 0 → new_in (all_at_version v (cons_option (kept_handle b f) (kept bs))) ≡ 0
-      by stays go = go
-      by goes go = go
-      by (becomes later) go = omega (arith, go)
-
-  news-count : (us : Tables) → new_in (all_at_version v (map new_handle us)) ≡ length us
-  news-count [] = refl
-  news-count (u ∷ us) = omega (arith, news-count us)
-
-  abbrev versioned : Tables → Tables
-  versioned us = map (λ u. (u.0, as_version v u.1)) us
-
-  news-lead : (us ts : Tables) → applied ts (all_at_version v (map new_handle us)) ≡ ts ++ versioned us
-  news-lead [] ts = sym (append-nil ts)
-  news-lead (u ∷ us) ts = news-lead us (ts ++ (u.0, as_version v u.1) ∷ []) ∙ append_assoc ts ((u.0, as_version v u.1) ∷ []) (versioned us)
-
-  news-new : (us ts : Tables) → AreNamed (ts ++ versioned us) → are_new ts (all_at_version v (map new_handle us)) ≡ true
-  news-new [] ts named = refl
-  news-new (u ∷ us) ts named =
-      let one : List ℕ × Rows = (u.0, as_version v u.1) in
-      and_from (is_none (table_of ts u.0)) (are_new (ts ++ one ∷ []) (all_at_version v (map new_handle us)))
-      (ap (λ (o : Option Rows). is_none o) (behind ts (versioned us) one named))
-      (news-new us (ts ++ one ∷ []) (subst (λ (xs : Tables). AreNamed xs) (sym (append_assoc ts (one ∷ []) (versioned us))) named))
-
-  abbrev fresh : Tables
-  fresh = filter (λ t. t.1.version == 0) copy
-
-  parted : (base : Tables) → all_at_version v (handles base copy) ≡ (all_at_version v (dropped base) ++ all_at_version v (kept base)) ++ all_at_version v (map new_handle fresh)
-  parted base =
-      map-append (at_version v) (dropped base ++ kept base) (map new_handle fresh)
-      ∙ ap (λ (cs : List Change). cs ++ all_at_version v (map new_handle fresh)) (map-append (at_version v) (dropped base) (kept base))
-
-  -- handles that lead to tables of different names
-  pub handles-new : (ts base : Tables) → AreNamed (applied ts (all_at_version v (handles base copy))) → are_new ts (all_at_version v (handles base copy)) ≡ true
-  handles-new ts base named =
-      let first = all_at_version v (dropped base) ++ all_at_version v (kept base) in
-      let news = all_at_version v (map new_handle fresh) in
-      let last : AreNamed (applied ts first ++ versioned fresh) = subst (λ (xs : Tables). AreNamed xs)
-      (ap (λ (cs : List Change). applied ts cs) (parted base) ∙ applied-append ts first news ∙ news-lead fresh (applied ts first)) named in
-      ap (λ (cs : List Change). are_new ts cs) (parted base)
-      ∙ are-new-append ts first news
-      (are-new-append ts (all_at_version v (dropped base)) (all_at_version v (kept base)) (dropped-new base ts) (kept-new base (applied ts (all_at_version v (dropped base)))))
-      (news-new fresh (applied ts first) last)
-
-  pub handles-count : (base : Tables) → new_in (all_at_version v (handles base copy)) ≡ length fresh
-  handles-count base =
-      ap new_in (parted base)
-      ∙ new-in-append (all_at_version v (dropped base) ++ all_at_version v (kept base)) (all_at_version v (map new_handle fresh))
-      ∙ ap (λ (n : ℕ). n + new_in (all_at_version v (map new_handle fresh))) (new-in-append (all_at_version v (dropped base)) (all_at_version v (kept base)))
-      ∙ count (new_in (all_at_version v (dropped base))) (new_in (all_at_version v (kept base))) (new_in (all_at_version v (map new_handle fresh))) (dropped-none base) (kept-none base) (news-count fresh)
-    where
-      count : (a b d : ℕ) → a ≡ 0 → b ≡ 0 → d ≡ length fresh → a + b + d ≡ length fresh
-      count a b d p q r = omega (arith, p, q, r)
+pub version-count : (v : ℕ) (cs : List Change) → new_in (all_at_version v cs) ≡ new_in cs
+version-count v [] = refl
+version-count v (dones.Dropped name ∷ cs) = ap (λ (n : ℕ). 0 + n) (version-count v cs)
+version-count v (dones.Kept name t ∷ cs) = ap (λ (n : ℕ). 0 + n) (version-count v cs)
+version-count v (dones.New name t ∷ cs) = ap (λ (n : ℕ). 1 + n) (version-count v cs)

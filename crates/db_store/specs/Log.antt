@@ -1,9 +1,11 @@
--- Commits as they are kept: what each made of the tables before it.
-use Rattle.std.specs.Prelude.{ℕ, zero, suc, ◌&&◌, Bool, true, false, IsTrue, List, [], ◌∷◌, Option, Some, None, slice_get}
+-- Commits as they are kept: what each made of the tables before it; and the branches that have ended.
+use Rattle.std.specs.Prelude.{◌≡◌, ℕ, zero, suc, ◌+◌, ◌&&◌, Bool, true, false, not, IsTrue, if◌then◌else◌, List, [], ◌∷◌, Option, Some, None, slice_get}
+use Rattle.std.specs.List.{list_all}
+use Rattle.db_changes.specs.Touched.{are_committed}
 use Rattle.db_replay.specs.Applying.{are_new}
 use Rattle.db_replay.specs.Changes.{applied}
 use Rattle.db_store.specs.declared.log.Entry.{Entry}
-use Rattle.meaning_areas.specs.Commits.{Commit}
+use Rattle.meaning_areas.specs.Commits.{Commit, has_number}
 use Rattle.meaning_tables.specs.Links.{gives, takes}
 use Rattle.meaning_tables.specs.Tables.{Tables}
 
@@ -49,3 +51,20 @@ has_branch (Some c) = c.branch
 abbrev pub commit_numbered : List Commit → ℕ → Option Commit
 commit_numbered cs zero = None
 commit_numbered cs (suc n) = slice_get cs n
+
+-- no table after any of the commits was just made
+abbrev pub AllCommitted : List Commit → Type 0
+AllCommitted cs = list_all (λ c. are_committed c.tables) cs ≡ true
+
+-- the transactions whose branches have ended, in order, and for how many more there is room
+pub record Ended : Type 0 where
+  pub numbers : List ℕ
+  pub spare : ℕ
+
+-- a commit with a branch that has not ended, and how many there are
+abbrev pub is_open : List ℕ → Commit → Bool
+is_open ended c = c.branch && not (has_number c.tx ended)
+
+abbrev pub open_branches : List ℕ → List Commit → ℕ
+open_branches ended [] = 0
+open_branches ended (c ∷ cs) = (if is_open ended c then 1 else 0) + open_branches ended cs

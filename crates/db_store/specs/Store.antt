@@ -9,10 +9,10 @@ use Rattle.dl_areas.specs.Lists.{Write, write_of}
 use Rattle.dl_journal.specs.Extent.{Extent}
 use Rattle.dl_journal.specs.Records.{records as bodies_in}
 use Rattle.meaning_areas.specs.Areas.{rows_of}
-use Rattle.meaning_areas.specs.Commits.{Commits, commit_to, rows_step, tables_after, with_commit}
-use Rattle.meaning_merge.specs.Merging.{merge}
+use Rattle.meaning_areas.specs.Commits.{Commits, commit_to, rows_step, tables_after, with_commit, with_ended}
 use Rattle.meaning_tables.specs.Tables.{Tables}
-use Rattle.db_changes.specs.Made.{Difference, record_of}
+use Rattle.db_changes.specs.Made.{Making, record_of}
+use Rattle.db_replay.specs.Changes.{all_at_version, applied}
 
 -- the greatest number of an opening, and of a transaction inside one
 abbrev pub most_numbers : ℕ
@@ -25,7 +25,7 @@ opening_full n = if nat_lt most_numbers n then Some (fulls.Openings (n - 1)) els
 abbrev pub draw_full : ℕ → Option Full
 draw_full n = if nat_lt most_numbers n then Some (fulls.Transactions (n - 1)) else None
 
--- The commits, how many transaction numbers the opening has drawn, for how many more commits there is room, how many bytes their
+-- The commits, how many transaction numbers of the opening are drawn, for how many more commits there is room, how many bytes their
 -- area has up to behind the closing gate, and how many it may have.
 pub record Database : Type 0 where
   pub rows : Commits
@@ -65,18 +65,26 @@ reopened d length = record {
 abbrev pub drawn_next : Database → ℕ
 drawn_next d = d.rows.opening * 2 ^ 32 + d.drawn + 1
 
--- the tables after the next commit, of what a transaction has made
-abbrev pub merged_with : Commits → Difference → Tables
-merged_with r d = merge (tables_after [] r.commits) d.base d.copy (length r.commits + 1)
+-- the tables after the next commit: the committed ones with its handles put in
+abbrev pub applied_with : Commits → Making → Tables
+applied_with r m = applied (tables_after [] r.commits) (all_at_version (length r.commits + 1) m.handles)
 
 -- the commits with that one
-abbrev pub committed_with : Commits → Difference → Commits
-committed_with r d = with_commit r (commit_to r.commits d.tx d.branch (merged_with r d))
+abbrev pub committed_with : Commits → Making → Commits
+committed_with r m = with_commit r (commit_to r.commits m.tx m.branch (applied_with r m))
 
 -- the fold takes its record, which leads there
-abbrev pub IsTaken : Commits → Difference → Type 0
-IsTaken r d = rows_step r (record_of d (length r.commits + 1)) ≡ Some (committed_with r d)
+abbrev pub IsTaken : Commits → Making → Type 0
+IsTaken r m = rows_step r (record_of m (length r.commits + 1)) ≡ Some (committed_with r m)
 
 -- its record
-abbrev pub commit_write : Commits → Difference → Write
-commit_write r d = write_of areas.Rows (rows_record.spelling (record_of d (length r.commits + 1))) None
+abbrev pub commit_write : Commits → Making → Write
+commit_write r m = write_of areas.Rows (rows_record.spelling (record_of m (length r.commits + 1))) None
+
+-- the fold takes the end of a transaction's branch: its commit has one, which has not ended
+abbrev pub CanEnd : Commits → ℕ → Type 0
+CanEnd r tx = rows_step r (records.Ended tx) ≡ Some (with_ended r tx)
+
+-- the record of that
+abbrev pub ended_write : ℕ → Write
+ended_write tx = write_of areas.Rows (rows_record.spelling (records.Ended tx)) None

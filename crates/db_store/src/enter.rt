@@ -1,13 +1,16 @@
-// One more commit in memory: in the log, and in tables with room for more.
-ghost use Rattle.std.specs.Prelude.{◌≡◌, ◌+◌, ◌/◌, ◌<◌, ◌≤◌, ◌++◌, ◌∷◌, [], IsTrue, None, min};
+// One more commit in memory: in the log, and in tables with room for more; and that room.
+ghost use Rattle.std.specs.Prelude.{◌≡◌, ◌+◌, ◌*◌, ◌/◌, ◌^◌, ◌<◌, ◌≤◌, ◌++◌, ◌∷◌, [], IsTrue, None, OnOk, length, min};
+ghost use Rattle.dl_base.specs.Limits.{most_tables};
 ghost use Rattle.db_replay.specs.Applying.{AreNew, is_new, new_by, new_in};
 ghost use Rattle.db_replay.specs.Changes.{apply, applied};
 ghost use Rattle.db_store.specs.Log.{AllNew, commits_from};
 ghost use Rattle.meaning_areas.specs.Commits.{commit_of, commit_to, tables_after};
 
+use crate::ended::Ended;
 use crate::log::{Entry, Log};
 use db_replay::Change;
-use dl_base::List;
+use dl_base::limits::MOST_TABLES;
+use dl_base::{List, Memory};
 use sql_table::RoomyTables;
 
 /// Puts a commit at the end of the log, and what it made into the tables, where there is room for a commit of at most 256 new
@@ -25,12 +28,12 @@ pub fn enter(
     requires all { AllNew log.old.entries }
     requires new { AreNew tables.old.tables changes }
     requires none { commit_of tx (commits_from [] log.old.entries) ≡ None }
-    requires few { new_in changes ≤ 256 }
-    requires room { 0 < min log.old.spare (tables.old.spare / 256) }
+    requires few { new_in changes ≤ most_tables }
+    requires room { 0 < min log.old.spare (tables.old.spare / most_tables) }
     ensures commits { commits_from [] log.new.entries ≡ commits_from [] log.old.entries ++ commit_to (commits_from [] log.old.entries) tx branch (applied tables.old.tables changes) ∷ [] }
     ensures at { tables.new.tables ≡ tables_after [] (commits_from [] log.new.entries) }
     ensures all { AllNew log.new.entries }
-    ensures spare { min log.old.spare (tables.old.spare / 256) ≤ min log.new.spare (tables.new.spare / 256) + 1 }
+    ensures spare { min log.old.spare (tables.old.spare / most_tables) ≤ min log.new.spare (tables.new.spare / most_tables) + 1 }
 {
     apply_all(tables, changes);
     let entry = Entry {
@@ -38,6 +41,31 @@ pub fn enter(
         changes: again,
     };
     log.push(tx, entry);
+}
+
+/// Makes room for so many more commits of at most 256 new tables each, and for the ends of as many branches as there are commits
+/// then. Want of memory leaves what room there was.
+pub fn make_room(
+    tables: &mut RoomyTables,
+    log: &mut Log,
+    ended: &mut Ended,
+    count: usize,
+) -> Result<(), Memory>
+    requires { count ≤ 2 ^ 32 }
+    ensures tables { tables.new.tables ≡ tables.old.tables }
+    ensures log { log.new.entries ≡ log.old.entries }
+    ensures ended { ended.new.numbers ≡ ended.old.numbers }
+    ensures room_tables { OnOk result (count * most_tables ≤ tables.new.spare) }
+    ensures room_log { OnOk result (count ≤ log.new.spare) }
+    ensures room_ended { OnOk result (length log.old.entries + count ≤ ended.new.spare) }
+    ensures spare_tables { tables.old.spare ≤ tables.new.spare }
+    ensures spare_log { log.old.spare ≤ log.new.spare }
+    ensures spare_ended { ended.old.spare ≤ ended.new.spare }
+{
+    let commits = log.len();
+    tables.make_room(count * MOST_TABLES)?;
+    log.make_room(count)?;
+    ended.make_room(commits + count)
 }
 
 // Does changes, for whose new tables there is room.

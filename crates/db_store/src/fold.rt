@@ -1,5 +1,5 @@
 // The fold of the area Rows.
-ghost use Rattle.std.specs.Prelude.{◌≡◌, ◌≢◌, ◌<◌, ◌^◌, ℕ, Ok, Err, IfOk, length};
+ghost use Rattle.std.specs.Prelude.{◌≡◌, ◌≢◌, ◌<◌, ◌^◌, ℕ, Ok, Err, IfOk, OnErr, length};
 ghost use Rattle.std.specs.Bool.{then_some};
 ghost use Rattle.dl_journal.specs.Records.{size};
 ghost use Rattle.meaning_areas.specs.Areas.{rows_body, rows_of};
@@ -18,16 +18,17 @@ fn take_record(alloc: Global, history: &mut History, body: &[u8]) -> Result<bool
         Some(RowsRecord::Commit(tx, number, branch, changes)) => {
             history.commits(alloc, tx, number, branch, &changes)
         }
-        Some(RowsRecord::Ended(tx)) => history.ends(tx),
+        Some(RowsRecord::Ended(tx)) => Ok(history.ends(tx)),
         None => Ok(false),
     }
 }
 
-/// What a list of bodies stands for, or the place of the first record that the fold refuses.
+/// What a list of bodies stands for, or the place of the first record that the fold refuses. No bodies take no memory.
 pub fn fold(alloc: Global, bodies: &List<Text>) -> Result<History, BeginFault>
     requires { size bodies.now < 2 ^ 63 }
     ensures rows { IfOk result (λ history. rows_of bodies.now ≡ Ok history) }
-    ensures refused { (place : ℕ) → result ≡ Err (BeginFault.NotAJournal place) → (rows_of bodies.now ≡ Err place) × (0 < length bodies.now) }
+    ensures refused { (place : ℕ) → result ≡ Err (BeginFault.NotAJournal place) → rows_of bodies.now ≡ Err place }
+    ensures some { OnErr result (0 < length bodies.now) }
     ensures no_device { result ≢ Err BeginFault.Device }
 {
     let mut history = History::empty(alloc);

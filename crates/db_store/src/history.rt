@@ -1,14 +1,14 @@
 // What the records of the area Rows stand for so far, at an opening.
-ghost use Rattle.std.specs.Prelude.{◌≡◌, ◌+◌, ◌/◌, ◌^◌, ◌==◌, ◌&&◌, ◌++◌, ◌∷◌, [], ℕ, List, Option, IfOk, is_none, length, not};
+ghost use Rattle.std.specs.Prelude.{◌≡◌, ◌+◌, ◌/◌, ◌^◌, ◌≤◌, ◌==◌, ◌&&◌, ◌++◌, ◌∷◌, [], ℕ, List, Option, IfOk, is_none, length, not};
 ghost use Rattle.std.specs.Bool.{then_some};
-ghost use Rattle.db_store.specs.Log.{AllNew, commits_from, has_branch};
+ghost use Rattle.db_store.specs.Log.{AllCommitted, AllNew, commits_from, has_branch, open_branches};
 ghost use Rattle.meaning_areas.specs.Commits.{commit_of, has_number, commits_on, ends_on, no_commits, opens_on, tables_after};
 
+use crate::ended::Ended;
 use crate::log::{Entry, Log};
 use db_replay::{Replayed, replay};
 use dl_base::{List, Memory};
 use dl_codec::TableChange;
-use indexmap::IndexSet;
 use sql_table::Tables;
 use std::alloc::Global;
 use std::marker::Model;
@@ -19,21 +19,21 @@ pub struct History {
     tables: Tables,
     log: Log,
     opening: u32,
-    ended: IndexSet<u64>,
+    ended: Ended,
 }
 
 impl Model for History {
-    ghost use Rattle.std.specs.Prelude.{◌≡◌, []};
+    ghost use Rattle.std.specs.Prelude.{◌≡◌, ◌≤◌, []};
     ghost use Rattle.db_replay.specs.Replaying.{ColumnsStand};
-    ghost use Rattle.db_store.specs.Log.{AllNew, commits_from};
+    ghost use Rattle.db_store.specs.Log.{AllCommitted, AllNew, commits_from, open_branches};
     ghost use Rattle.meaning_areas.specs.Commits.{Commits, tables_after};
     ghost use Rattle.meaning_tables.specs.Fits.{Fits};
 
     ghost Value = { Commits };
 
-    ghost view = { λ h. record { opening = h.opening; commits = commits_from [] h.log.entries; ended = h.ended.keys } };
+    ghost view = { λ h. record { opening = h.opening; commits = commits_from [] h.log.entries; ended = h.ended.numbers } };
 
-    ghost invariant = { λ h. (h.tables ≡ tables_after [] (commits_from [] h.log.entries)) × AllNew h.log.entries × Fits h.tables × ColumnsStand h.tables };
+    ghost invariant = { λ h. (h.tables ≡ tables_after [] (commits_from [] h.log.entries)) × AllNew h.log.entries × Fits h.tables × ColumnsStand h.tables × AllCommitted (commits_from [] h.log.entries) × (open_branches h.ended.numbers (commits_from [] h.log.entries) ≤ h.ended.spare) };
 }
 
 impl History {
@@ -45,7 +45,7 @@ impl History {
             tables: Tables::empty(alloc),
             log: Log::empty(alloc),
             opening: 0,
-            ended: IndexSet::new(alloc),
+            ended: Ended::empty(alloc),
         }
     }
 
@@ -65,19 +65,20 @@ impl History {
     fn can_end(&self, tx: u64) -> bool
         ensures { result ≡ (has_branch (commit_of tx self.now.commits) && not (has_number tx self.now.ended)) }
     {
-        self.log.has_branch(tx) && !is_among(tx, &self.ended)
+        self.log.has_branch(tx) && !self.ended.has(tx)
     }
 
-    /// Takes the end of a branch, and says whether the branch is one of a commit, and has not ended yet.
+    /// Takes the end of a branch, and says whether the branch is one of a commit, and has not ended yet. Where it is refused, all is
+    /// as before. It takes no memory.
     #[tactic(auto, using(crate::proofs::HistoryLaws::ends_yes, crate::proofs::HistoryLaws::ends_no))]
-    pub fn ends(&mut self, tx: u64) -> Result<bool, Memory>
-        ensures { IfOk result (λ taken. ends_on self.old tx (commit_of tx self.old.commits) ≡ then_some taken self.new) }
+    pub fn ends(&mut self, tx: u64) -> bool
+        ensures { ends_on self.old tx (commit_of tx self.old.commits) ≡ then_some result self.new }
     {
         if !self.can_end(tx) {
-            return Ok(false);
+            return false;
         }
-        self.ended.insert(tx)?;
-        Ok(true)
+        self.ended.put(tx);
+        true
     }
 
     // Whether the next commit has this number, and may be one of this transaction.
@@ -105,6 +106,7 @@ impl History {
             return Ok(false);
         }
         self.log.make_room(1)?;
+        self.ended.make_room(self.log.len() + 1)?;
         match replay(alloc, &self.tables, number, changes)? {
             Some(replayed) => {
                 let Replayed { tables, changes } = replayed;
@@ -116,11 +118,14 @@ impl History {
         }
     }
 
-    /// The tables behind the last commit, the commits, the last opening, and the ended transactions. It takes no memory.
-    pub fn into_parts(self) -> (Tables, Log, u32, IndexSet<u64>)
-        ensures parts { self ≡ record { opening = result.2; commits = commits_from [] result.1.entries; ended = result.3.keys } }
+    /// The tables behind the last commit, the commits, the last opening, and the ended branches, with room for those that have not
+    /// ended. It takes no memory.
+    pub fn into_parts(self) -> (Tables, Log, u32, Ended)
+        ensures parts { self ≡ record { opening = result.2; commits = commits_from [] result.1.entries; ended = result.3.numbers } }
         ensures tables { result.0 ≡ tables_after [] self.commits }
         ensures new { AllNew result.1.entries }
+        ensures committed { AllCommitted self.commits }
+        ensures room { open_branches result.3.numbers self.commits ≤ result.3.spare }
     {
         let History {
             tables,
@@ -130,10 +135,4 @@ impl History {
         } = self;
         (tables, log, opening, ended)
     }
-}
-
-fn is_among(tx: u64, ended: &IndexSet<u64>) -> bool
-    ensures { result ≡ has_number tx ended.now.keys }
-{
-    ended.contains(&tx)
 }

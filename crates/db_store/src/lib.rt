@@ -1,8 +1,9 @@
-//! The commits of the database, in memory and in the area Rows: the committed tables, those after each earlier commit, and the
-//! numbers of transactions. Ends of branches are read from the area and not written yet; restores are not built.
+//! The commits of the database, in memory and in the area Rows: the committed tables, those after each earlier commit, the numbers
+//! of transactions, and the branches that have ended. Restores are not built.
 #![tactic(auto)]
 
 mod apply;
+mod ended;
 mod enter;
 mod fold;
 mod history;

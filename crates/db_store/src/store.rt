@@ -1,5 +1,5 @@
 // The commits that are open on a bench.
-ghost use Rattle.std.specs.Prelude.{◌≡◌, ◌==◌, ◌+◌, ◌≤◌, ◌^◌, ◌∷◌, [], ℕ, List, filter, Some, Ok, Err, IfOk, OnOk, OnErr, is_some, length};
+ghost use Rattle.std.specs.Prelude.{◌≡◌, ◌+◌, ◌≤◌, ◌^◌, ◌∷◌, [], ℕ, List, Some, Ok, Err, IfOk, IfSome, OnOk, OnErr, is_some, length};
 ghost use Rattle.std.specs.Option.{option_map};
 ghost use Rattle.std.specs.Result.{result_err};
 ghost use Rattle.dl_areas.specs.Opening.{IsOpened, OpensOne};
@@ -11,23 +11,23 @@ ghost use Rattle.dl_codec.specs.Rows.{rows_record};
 ghost use Rattle.dl_codec.specs.declared.rows.RowsRecord.TheVariants as records;
 ghost use Rattle.dl_journal.specs.Open.{IsOpen, IsUnwritten};
 ghost use Rattle.meaning_areas.specs.Areas.{rows_of};
-ghost use Rattle.meaning_areas.specs.Commits.{commit_of, tables_after};
+ghost use Rattle.meaning_areas.specs.Commits.{commit_of, has_number, tables_after, with_ended};
 ghost use Rattle.meaning_areas.specs.Stands.{past};
-ghost use Rattle.db_store.specs.Log.{AllNew, commit_numbered};
-ghost use Rattle.meaning_merge.specs.Merging.{AreNamed};
-ghost use Rattle.db_store.specs.Store.{IsTaken, commit_write, committed_with, draw_full, drawn_next, extent, opening_write, reopened, rows_in};
+ghost use Rattle.db_changes.specs.Touched.{AreCommitted};
+ghost use Rattle.db_store.specs.Log.{AllCommitted, AllNew, commit_numbered, open_branches};
+ghost use Rattle.db_store.specs.Store.{CanEnd, IsTaken, commit_write, committed_with, draw_full, drawn_next, ended_write, extent, most_numbers, opening_write, reopened, rows_in};
 
 use crate::apply::past_tables;
-use crate::enter::enter;
+use crate::ended::Ended;
+use crate::enter::{enter, make_room};
 use crate::fold::fold;
 use crate::history::History;
 use crate::log::Log;
 use crate::write::write;
-use db_changes::{Made, handles_lead_to_merged_tables};
+use db_changes::Made;
 use dl_areas::an_append_writes_one_record;
 use dl_base::{AppendFault, Area, BeginFault, Bench, Full, Memory};
 use dl_journal::Journal;
-use indexmap::IndexSet;
 use sql_table::{RoomyTables, Tables};
 use std::alloc::Global;
 use std::marker::Model;
@@ -35,12 +35,9 @@ use std::marker::Model;
 // The greatest number of an opening, and of a transaction inside one.
 const MOST_NUMBERS: u32 = 4_294_967_294;
 
-// The most new tables of a commit that has room.
-const NEW_TABLES: usize = 256;
-
 /// The commits of the database, in memory and in the area Rows. Contracts see what the records of the area stand for, how many
-/// transaction numbers were drawn since the opening, for how many more commits there is room, how many bytes the area's records and
-/// closing gate are, and how many they may be.
+/// transaction numbers of the last opening are drawn, for how many more commits there is room, how many bytes the area's records and
+/// closing gate are, and how many they may be. Of an opening that was found, and not announced, all numbers count as drawn.
 #[derive(Drop)]
 pub struct Store {
     alloc: Global,
@@ -48,28 +45,30 @@ pub struct Store {
     tables: RoomyTables,
     log: Log,
     opening: u32,
-    ended: IndexSet<u64>,
+    // with room for the branches that have not ended
+    ended: Ended,
     drawn: u32,
 }
 
 impl Model for Store {
-    ghost use Rattle.std.specs.Prelude.{◌≡◌, ◌/◌, [], min};
+    ghost use Rattle.std.specs.Prelude.{◌≡◌, ◌≤◌, ◌-◌, ◌/◌, [], min};
+    ghost use Rattle.dl_base.specs.Limits.{most_tables};
     ghost use Rattle.dl_base.specs.declared.area.Area.TheVariants as areas;
-    ghost use Rattle.db_store.specs.Log.{AllNew, commits_from};
+    ghost use Rattle.db_store.specs.Log.{AllCommitted, AllNew, commits_from, open_branches};
     ghost use Rattle.db_store.specs.Store.{Database};
     ghost use Rattle.meaning_areas.specs.Commits.{tables_after};
 
     ghost Value = { Database };
 
     ghost view = { λ s. record {
-      rows = record { opening = s.opening; commits = commits_from [] s.log.entries; ended = s.ended.keys };
+      rows = record { opening = s.opening; commits = commits_from [] s.log.entries; ended = s.ended.numbers };
       drawn = s.drawn;
-      spare = min s.log.spare (s.tables.spare / 256);
+      spare = min (min s.log.spare (s.tables.spare / most_tables)) (s.ended.spare - open_branches s.ended.numbers (commits_from [] s.log.entries));
       length = s.journal.length;
       limit = s.journal.limit;
     } };
 
-    ghost invariant = { λ s. (s.journal.area ≡ areas.Rows) × (s.tables.tables ≡ tables_after [] (commits_from [] s.log.entries)) × AllNew s.log.entries };
+    ghost invariant = { λ s. (s.journal.area ≡ areas.Rows) × (s.tables.tables ≡ tables_after [] (commits_from [] s.log.entries)) × AllNew s.log.entries × AllCommitted (commits_from [] s.log.entries) × (open_branches s.ended.numbers (commits_from [] s.log.entries) ≤ s.ended.spare) };
 }
 
 impl Store {
@@ -84,13 +83,16 @@ impl Store {
 
         // The commits are those that the area's list stands for, and that each crash leaves.
         ensures opened { IfOk result (λ s. (bodies : List (List ℕ)) × IsOpened areas.Rows limit (extent s) bodies (B.outside bench.old) (B.outside bench.new) × (rows_of bodies ≡ Ok s.rows)) }
-        ensures drawn { IfOk result (λ s. s.drawn ≡ 0) }
+
+        // None of its numbers can be drawn before the next opening is announced.
+        ensures drawn { IfOk result (λ s. s.drawn ≡ most_numbers) }
 
         // However it ends, the area reads as the list that it was, and a crash leaves an image of before or that list.
         ensures opens { OpensOne areas.Rows (B.outside bench.old) (B.outside bench.new) }
 
         ensures no_rows { (place : ℕ) → result ≡ Err (BeginFault.NotAJournal place) → (told : List ℕ) → (B.outside bench.old).reads areas.Rows ≡ Some told → rows_in told ≡ Err place }
         ensures untouched { (place : ℕ) → result ≡ Err (BeginFault.NotAJournal place) → IsUnwritten areas.Rows (B.outside bench.old) (B.outside bench.new) }
+        ensures memory { result ≡ Err BeginFault.Memory → IsUnwritten areas.Rows (B.outside bench.old) (B.outside bench.new) }
         ensures device { result ≡ Err BeginFault.Device → FaultCounted (B.outside bench.old) (B.outside bench.new) }
     {
         let (journal, bodies) = Journal::begin(alloc, bench, Area::Rows, limit)?;
@@ -98,9 +100,9 @@ impl Store {
         Ok(opened(alloc, journal, history))
     }
 
-    /// Writes the next opening, from which on transaction numbers begin again: once after `begin`, before the first `draw`. The
-    /// errors are `Full(Openings)` with the last opening's number, `Full(Area)` where the area has no room for the record, and
-    /// `Device`, after which the area is to be opened again. It takes no memory.
+    /// Writes the next opening, from which on transaction numbers begin again: once after `begin`, before the first `draw`, which
+    /// has none before. The errors are `Full(Openings)` with the last opening's number, `Full(Area)` where the area has no room for
+    /// the record, and `Device`, after which the area is to be opened again. It takes no memory.
     pub fn announce<B: Bench>(&mut self, bench: &mut B) -> Result<(), AppendFault>
         requires { IsOpen (extent self.old) (B.outside bench.old) }
         ensures ok { OnOk result (self.new ≡ reopened self.old self.new.length) }
@@ -124,7 +126,8 @@ impl Store {
 
     /// The tables after the last commit; none before the first. It takes no memory.
     pub fn committed(&self) -> &RoomyTables
-        ensures { result.now.tables ≡ tables_after [] self.now.rows.commits }
+        ensures tables { result.now.tables ≡ tables_after [] self.now.rows.commits }
+        ensures committed { AreCommitted result.now.tables }
     {
         &self.tables
     }
@@ -133,7 +136,8 @@ impl Store {
     /// other tables; the cost grows with the number of changes of the commits up to it, and with that of the tables. The error is
     /// want of memory, and changes nothing.
     pub fn past(&self, commit: u64) -> Result<Option<Tables>, Memory>
-        ensures { IfOk result (λ tables. tables ≡ past [] self.now.rows.commits commit) }
+        ensures tables { IfOk result (λ tables. tables ≡ past [] self.now.rows.commits commit) }
+        ensures committed { IfOk result (λ tables. IfSome tables AreCommitted) }
     {
         past_tables(self.alloc, &self.log, commit)
     }
@@ -168,7 +172,7 @@ impl Store {
     }
 
     /// The next transaction number: the opening's 32 bits, and behind them how many were drawn in it. The only error is that an
-    /// opening has no more. It takes no memory.
+    /// opening has no more, as one that was found and not announced: so no number is drawn again after a crash. It takes no memory.
     #[tactic(auto, using(crate::proofs::Numbers::draw_fits, crate::proofs::Numbers::draw_ends))]
     pub fn draw(&mut self) -> Result<u64, AppendFault>
         ensures value { IfOk result (λ tx. tx ≡ drawn_next self.old) }
@@ -183,15 +187,21 @@ impl Store {
         Ok(u64::from(self.opening) * 4_294_967_296 + u64::from(self.drawn))
     }
 
-    /// Writes the commit of what a transaction has made, and returns its number, from 1. There has to be room for it, it has at most
-    /// 256 new tables, and its record leads from the committed tables to the merged ones. The errors are `Full(Area)` where the area
-    /// has no room for the record, and `Device`, after which the area is to be opened again. It takes no memory, and costs its
-    /// touched rows as bytes, and its tables.
+    /// Whether the branch of a transaction has ended. It takes no memory.
+    pub fn is_ended(&self, tx: u64) -> bool
+        ensures { result ≡ has_number tx self.now.rows.ended }
+    {
+        self.ended.has(tx)
+    }
+
+    /// Writes the commit of what a transaction has made, and returns its number, from 1. There has to be room for it, and its record
+    /// leads from the committed tables to those with its handles put in; where these are of what a copy makes of its base, they
+    /// are the merged ones, as `handles_lead_to_merged_tables` says. The errors are `Full(Area)` where the area has no room for the
+    /// record, and `Device`, after which the area is to be opened again. It takes no memory, and costs its touched rows as bytes,
+    /// and its tables.
     pub fn commit<B: Bench>(&mut self, bench: &mut B, made: Made) -> Result<u64, AppendFault>
         requires ready { IsOpen (extent self.old) (B.outside bench.old) }
         requires room { 1 ≤ self.old.spare }
-        requires few { length (filter (λ t. t.1.version == 0) made.copy) ≤ 256 }
-        requires named { AreNamed made.base }
         requires taken { IsTaken self.old.rows made }
         ensures value { IfOk result (λ number. number ≡ length self.old.rows.commits + 1) }
         ensures rows { OnOk result (self.new.rows ≡ committed_with self.old.rows made) }
@@ -200,7 +210,6 @@ impl Store {
         ensures err { OnErr result (self.new ≡ self.old) }
         ensures does { DoesAlone (extent self.old) (extent self.new) (commit_write self.old.rows made ∷ []) (result_err result) (B.outside bench.old) (B.outside bench.new) }
     {
-        handles_lead_to_merged_tables();
         let tx = made.tx();
         let branch = made.branch();
         let number = self.log.len() as u64 + 1;
@@ -214,8 +223,29 @@ impl Store {
         }
     }
 
-    /// Makes room for so many more commits, of at most 256 new tables each; want of memory leaves what room there was.
-    #[tactic(auto, using(crate::proofs::Room::room_for, crate::proofs::Room::more_room))]
+    /// Writes the end of the branch of a transaction, whose commit has a branch that has not ended. The errors are `Full(Area)` where
+    /// the area has no room for the record, and `Device`, after which the area is to be opened again. It takes no memory: `make_room`
+    /// made room for it with that for the commit, and `begin` for the branches that it found.
+    pub fn ended<B: Bench>(&mut self, bench: &mut B, tx: u64) -> Result<(), AppendFault>
+        requires ready { IsOpen (extent self.old) (B.outside bench.old) }
+        requires taken { CanEnd self.old.rows tx }
+        ensures rows { OnOk result (self.new.rows ≡ with_ended self.old.rows tx) }
+        ensures spare { OnOk result (self.old.spare ≤ self.new.spare) }
+        ensures same { OnOk result ((self.new.drawn ≡ self.old.drawn) × (self.new.limit ≡ self.old.limit)) }
+        ensures err { OnErr result (self.new ≡ self.old) }
+        ensures does { DoesAlone (extent self.old) (extent self.new) (ended_write tx ∷ []) (result_err result) (B.outside bench.old) (B.outside bench.new) }
+    {
+        match write(&mut self.journal, bench, &ended_body(tx)) {
+            Ok(()) => {
+                self.ended.put(tx);
+                Ok(())
+            }
+            Err(fault) => Err(fault),
+        }
+    }
+
+    /// Makes room for so many more commits, of at most 256 new tables each, and for the ends of their branches; want of memory leaves
+    /// what room there was.
     pub fn make_room(&mut self, commits: u64) -> Result<(), Memory>
         ensures same { self.new ≡ record self.old { spare = self.new.spare } }
         ensures room { OnOk result (commits ≤ self.new.spare) }
@@ -224,9 +254,12 @@ impl Store {
         if commits > 4_294_967_296 {
             return Err(Memory);
         }
-        let count = commits as usize;
-        self.log.make_room(count)?;
-        self.tables.make_room(count * NEW_TABLES)
+        make_room(
+            &mut self.tables,
+            &mut self.log,
+            &mut self.ended,
+            commits as usize,
+        )
     }
 }
 
@@ -234,7 +267,7 @@ impl Store {
 fn opened(alloc: Global, journal: Journal, history: History) -> Store
     requires { journal.area ≡ areas.Rows }
     ensures rows { result.rows ≡ history }
-    ensures drawn { result.drawn ≡ 0 }
+    ensures drawn { result.drawn ≡ most_numbers }
     ensures extent { extent result ≡ journal }
 {
     let (tables, log, opening, ended) = history.into_parts();
@@ -245,7 +278,7 @@ fn opened(alloc: Global, journal: Journal, history: History) -> Store
         log,
         opening,
         ended,
-        drawn: 0,
+        drawn: MOST_NUMBERS,
     }
 }
 
@@ -255,4 +288,14 @@ fn opening_body(number: u32) -> [u8; 5]
 {
     let bytes = number.to_be_bytes();
     [1, bytes[0], bytes[1], bytes[2], bytes[3]]
+}
+
+// The body of the record of a branch's end.
+fn ended_body(tx: u64) -> [u8; 9]
+    ensures { result ≡ rows_record.spelling (records.Ended tx) }
+{
+    let bytes = tx.to_be_bytes();
+    [
+        3, bytes[0], bytes[1], bytes[2], bytes[3], bytes[4], bytes[5], bytes[6], bytes[7],
+    ]
 }

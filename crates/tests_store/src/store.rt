@@ -1,4 +1,4 @@
-// Each call but `commit`, once, with ample memory, over an area whose bytes are written by the format.
+// Calls that read commits, once each, with ample memory, over an area whose bytes are written by the format; and transaction numbers.
 use db_store::Store;
 use dl_base::{Area, BeginFault, List};
 use dl_bench::MemoryBench;
@@ -60,6 +60,8 @@ fn commits_are_told(store: &Store) -> bool {
         && store.commit_at(3) == None
         && store.decided(4_294_967_298)
         && !store.decided(4_294_967_299)
+        && store.is_ended(4_294_967_297)
+        && !store.is_ended(4_294_967_298)
 }
 
 fn past_is_told(store: &Store) -> bool {
@@ -70,16 +72,16 @@ fn past_is_told(store: &Store) -> bool {
         && counts_after(store, 3) == None
 }
 
-// Two numbers of an opening, and one of the next, which is announced; and the length of the area behind that.
-fn numbers(alloc: Global) -> Option<(u64, u64, u64, usize)> {
+// Whether a number is drawn before the next opening is announced, two behind that, and the length of the area then.
+fn numbers(alloc: Global) -> Option<(bool, u64, u64, usize)> {
     let mut bench = area(alloc, two_commits())?;
     match Store::begin(alloc, &mut bench, 1_000) {
         Ok(mut store) => {
+            let early = store.draw().is_ok();
+            store.announce(&mut bench).ok()?;
             let first = store.draw().ok()?;
             let second = store.draw().ok()?;
-            store.announce(&mut bench).ok()?;
-            let third = store.draw().ok()?;
-            Some((first, second, third, bench.area(Area::Rows).len()))
+            Some((early, first, second, bench.area(Area::Rows).len()))
         }
         Err(_) => None,
     }
@@ -113,9 +115,9 @@ fn numbers_of_transactions(rt: HostRuntime) {
     assert_eq!(rt;
         numbers(rt.alloc()),
         Some((
-            4_294_967_297,
-            4_294_967_298,
+            false,
             8_589_934_593,
+            8_589_934_594,
             two_commits().len().wrapping_add(14)
         ))
     );

@@ -1,9 +1,13 @@
-use Rattle.std.proofs.Common.{◌≡◌, ◌∷◌, ◌++◌, [], ℕ, List, Option, true, nat_eq, sym, ap, ◌∙◌, rules}
+use Rattle.std.proofs.Common.{◌≡◌, ◌+◌, ◌≤◌, ◌∷◌, ◌++◌, [], ℕ, List, Option, Some, length, true, nat_eq, sym, ap, ◌∙◌, rules, arith}
 use Rattle.std.specs.Map.{lookup}
 use Rattle.std.specs.Option.{option_map}
 use Rattle.db_replay.specs.declared.replaying.Replayed.{Replayed}
-use Rattle.db_store.proofs.HistoryLaws.{after_all, commits_fit, new_all, none_open}
+use Rattle.meaning_areas.specs.Commits.{Commits}
+use Rattle.db_store.proofs.Ending.{log_more}
+use Rattle.db_store.proofs.HistoryLaws.{after_all, commits_fit, new_all, next_above, none_open}
 use Rattle.db_store.proofs.LogLaws.{of_some}
+use Rattle.db_store.proofs.Versions.{replay_committed}
+use Rattle.db_store.specs.Log.{commits_from}
 use Rattle.db_store.specs.declared.log.Entry.{Entry}
 use Rattle.db_store.proofs.history.History.commits.Goals as goal
 
@@ -11,20 +15,27 @@ pub push-requires-clause-new : goal.push-requires-clause-new
 push-requires-clause-new c =
     let next : c.is_next.result ≡ true = search rules in
     ap (λ (l : List (ℕ × Entry)). lookup (λ k. nat_eq c.args.tx k) l) c.make_room.ensures.entries
-    ∙ none_open c.args.self.now c.args.tx c.args.number c.self.inside.opening c.self.inside.log.entries c.self.inside.ended.keys c.self.view_is (sym c.is_next.ensures ∙ next)
+    ∙ none_open c.args.self.now c.args.tx c.args.number c.self.inside.opening c.self.inside.log.entries c.self.inside.ended.numbers c.self.view_is (sym c.is_next.ensures ∙ next)
 
 pub invariant_of-self-in-Some : goal.invariant_of-self-in-Some
 invariant_of-self-in-Some c =
     let r = c.in-Some.replayed in
     let e : Entry = record { branch = c.args.branch; changes = r.changes } in
     let es = c.self.inside.log.entries in
-    let grown : c.push.new.self.entries ≡ es ++ (c.args.tx, e) ∷ [] = c.push.ensures.entries ∙ ap (λ (l : List (ℕ × Entry)). l ++ (c.args.tx, e) ∷ []) c.make_room.ensures.entries in
+    let all = c.push.new.self.entries in
+    let grown : all ≡ es ++ (c.args.tx, e) ∷ [] = c.push.ensures.entries ∙ ap (λ (l : List (ℕ × Entry)). l ++ (c.args.tx, e) ∷ []) c.make_room.ensures.entries in
     let of = c.in_ok-replayed.ensures in
-    let leads = of_some _ c.in_ok-replayed.field-0 r c.in-Some.is of.handles in (
-      after_all es c.push.new.self.entries c.args.tx e c.self.inside.tables r.tables grown c.self.invariant.0 leads,
-      new_all es c.push.new.self.entries c.args.tx e c.self.inside.tables grown c.self.invariant.0 c.self.invariant.1 (of_some _ c.in_ok-replayed.field-0 r c.in-Some.is of.new),
+    let leads = of_some _ c.in_ok-replayed.field-0 r c.in-Some.is of.handles in
+    let next : c.is_next.result ≡ true = search rules in
+    let fit = sym (ap (λ (o : Option Replayed). option_map (λ x. x.tables) o) c.in-Some.is) ∙ of.exact in
+    let above = next_above c.args.self.now c.args.tx c.args.number (sym c.is_next.ensures ∙ next) in
+    let room : length es + 1 ≤ c.make_room-2.new.self.spare = omega (arith, c.len.ensures.value, ap (λ (l : List (ℕ × Entry)). length l) c.make_room.ensures.entries, c.in_ok-make_room-2.ensures.room) in (
+      after_all es all c.args.tx e c.self.inside.tables r.tables grown c.self.invariant.0 leads,
+      new_all es all c.args.tx e c.self.inside.tables grown c.self.invariant.0 c.self.invariant.1 (of_some _ c.in_ok-replayed.field-0 r c.in-Some.is of.new),
       of_some _ c.in_ok-replayed.field-0 r c.in-Some.is of.fit,
       of_some _ c.in_ok-replayed.field-0 r c.in-Some.is of.columns,
+      replay_committed es all c.args.tx c.args.number e c.self.inside.tables r.tables c.args.changes.now above grown c.self.invariant.0 c.self.invariant.4 fit leads,
+      log_more es all (c.args.tx, e) c.make_room-2.new.self.numbers c.make_room-2.new.self.spare grown room,
     )
 
 pub returns-in-Some : goal.returns-in-Some
@@ -34,7 +45,8 @@ returns-in-Some c =
     let es = c.self.inside.log.entries in
     let grown : c.push.new.self.entries ≡ es ++ (c.args.tx, e) ∷ [] = c.push.ensures.entries ∙ ap (λ (l : List (ℕ × Entry)). l ++ (c.args.tx, e) ∷ []) c.make_room.ensures.entries in
     let next : c.is_next.result ≡ true = search rules in
-    commits_fit c.args.self.now c.args.tx c.args.number c.args.branch c.args.changes.now c.self.inside.opening es c.self.inside.ended.keys c.self.view_is c.self.inside.tables c.self.invariant.0
+    commits_fit c.args.self.now c.args.tx c.args.number c.args.branch c.args.changes.now c.self.inside.opening es c.self.inside.ended.numbers c.self.view_is c.self.inside.tables c.self.invariant.0
     r.tables r.changes c.push.new.self.entries (sym c.is_next.ensures ∙ next)
     (sym (ap (λ (o : Option Replayed). option_map (λ x. x.tables) o) c.in-Some.is) ∙ c.in_ok-replayed.ensures.exact)
     (of_some _ c.in_ok-replayed.field-0 r c.in-Some.is c.in_ok-replayed.ensures.handles) grown
+    ∙ ap (λ (l : List ℕ). Some (let x : Commits = record { opening = c.self.inside.opening; commits = commits_from [] c.push.new.self.entries; ended = l } in x)) (sym c.make_room-2.ensures.numbers)

@@ -1,26 +1,52 @@
-use Rattle.std.proofs.Common.{ap, ◌+◌, ◌∙◌, arith, []}
-use Rattle.db_replay.specs.Applying.{new_in}
-use Rattle.db_store.proofs.Committing.{commits_with, handles_new}
-use Rattle.db_store.proofs.Named.{handles-count}
-use Rattle.db_store.specs.Log.{commits_from}
+use Rattle.std.proofs.Common.{ℕ, ◌+◌, ◌-◌, ◌/◌, ◌≤◌, [], ap, min, rules, subst, sym}
+use Rattle.dl_base.specs.Limits.{most_tables}
+use Rattle.db_store.proofs.Committing.{commits_committed, commits_with, handles_few, handles_new}
+use Rattle.db_store.proofs.Ending.{commit_more}
+use Rattle.db_store.proofs.Room.{room_commit, spare_commit}
+use Rattle.db_store.specs.Log.{commits_from, open_branches}
 use Rattle.db_store.specs.Store.{Database}
 use Rattle.db_store.proofs.store.Store.commit.Goals as goal
 
 pub enter-requires-clause-new : goal.enter-requires-clause-new
 enter-requires-clause-new g c =
-    (handles_new c.args.self.now.rows c.args.made c.self.inside.log.entries c.self.inside.opening c.self.inside.ended.keys (ap (λ (x : Database). x.rows) c.self.view_is)
-    c.self.invariant.2 c.requires.named c.requires.taken c.handles_lead_to_merged_tables.ensures.named
-    c.self.inside.tables.tables c.len.result c.parts-body.result.1 c.self.invariant.1 c.len.ensures.commits c.parts-body.ensures.handles).0
+    handles_new c.args.self.now.rows c.args.made c.self.inside.log.entries c.self.inside.opening c.self.inside.ended.numbers (ap (λ (x : Database). x.rows) c.self.view_is) c.requires.taken
+    c.self.inside.tables.tables c.len.result c.parts-body.result.1 c.self.invariant.1 c.len.ensures.commits c.parts-body.ensures.handles c.self.invariant.2 c.parts-body.ensures.order
 
 pub enter-requires-clause-few : goal.enter-requires-clause-few
 enter-requires-clause-few g c =
-    let count = ap new_in c.parts-body.ensures.handles ∙ handles-count c.args.made.copy (c.len.result + 1) c.args.made.base in
-    omega (arith, count, c.requires.few)
+    handles_few c.args.self.now.rows c.args.made c.self.inside.log.entries c.self.inside.opening c.self.inside.ended.numbers (ap (λ (x : Database). x.rows) c.self.view_is) c.requires.taken
+    c.self.inside.tables.tables c.len.result c.parts-body.result.1 c.self.invariant.1 c.len.ensures.commits c.parts-body.ensures.handles c.parts-body.ensures.few
 
 pub returns-in-Ok-clause-rows : goal.returns-in-Ok-clause-rows
 returns-in-Ok-clause-rows g c =
-    commits_with c.args.self.now.rows c.args.made (commits_from [] c.self.inside.log.entries) (commits_from [] c.enter.new.log.entries) c.self.inside.opening c.self.inside.ended.keys
-    (ap (λ (x : Database). x.rows) c.self.view_is) c.tx-tx.result c.branch-branch.result _ c.enter.ensures.commits c.tx-tx.ensures c.branch-branch.ensures
-    (handles_new c.args.self.now.rows c.args.made c.self.inside.log.entries c.self.inside.opening c.self.inside.ended.keys (ap (λ (x : Database). x.rows) c.self.view_is)
-    c.self.invariant.2 c.requires.named c.requires.taken c.handles_lead_to_merged_tables.ensures.named
-    c.self.inside.tables.tables c.len.result c.parts-body.result.1 c.self.invariant.1 c.len.ensures.commits c.parts-body.ensures.handles).1
+    commits_with c.args.self.now.rows c.args.made c.self.inside.log.entries c.self.inside.opening c.self.inside.ended.numbers (ap (λ (x : Database). x.rows) c.self.view_is) c.requires.taken
+    c.self.inside.tables.tables c.len.result c.parts-body.result.1 c.self.invariant.1 c.len.ensures.commits c.parts-body.ensures.handles
+    c.tx-tx.result c.branch-branch.result (commits_from [] c.enter.new.log.entries) c.enter.ensures.commits c.tx-tx.ensures c.branch-branch.ensures
+
+pub returns-in-Ok-clause-spare : goal.returns-in-Ok-clause-spare
+returns-in-Ok-clause-spare g c =
+    let was = min c.self.inside.log.spare (c.self.inside.tables.spare / most_tables) in
+    let now = min c.enter.new.log.spare (c.enter.new.tables.spare / most_tables) in
+    let spare = c.self.inside.ended.spare in
+    let ended = c.self.inside.ended.numbers in
+    let before = open_branches ended (commits_from [] c.self.inside.log.entries) in
+    let after = open_branches ended (commits_from [] c.enter.new.log.entries) in
+    subst (λ (n : ℕ). n ≤ min now (spare - after) + 1) (ap (λ (x : Database). x.spare) c.self.view_is)
+    (spare_commit was now spare before after c.enter.ensures.spare (commit_more c.self.inside.log.entries c.enter.new.log.entries ended _ c.enter.ensures.commits))
+
+pub invariant_of-self : goal.invariant_of-self
+invariant_of-self g c =
+    let was = min c.self.inside.log.spare (c.self.inside.tables.spare / most_tables) in
+    let spare = c.self.inside.ended.spare in
+    let ended = c.self.inside.ended.numbers in
+    let before = open_branches ended (commits_from [] c.self.inside.log.entries) in
+    let after = open_branches ended (commits_from [] c.enter.new.log.entries) in
+    let room = subst (λ (n : ℕ). 1 ≤ n) (sym (ap (λ (x : Database). x.spare) c.self.view_is)) c.requires.room in (
+      search rules,
+      c.enter.ensures.at,
+      c.enter.ensures.all,
+      commits_committed c.args.self.now.rows c.args.made c.self.inside.log.entries c.self.inside.opening ended (ap (λ (x : Database). x.rows) c.self.view_is) c.requires.taken
+          c.self.inside.tables.tables c.len.result c.parts-body.result.1 c.self.invariant.1 c.len.ensures.commits c.parts-body.ensures.handles
+          c.tx-tx.result c.branch-branch.result (commits_from [] c.enter.new.log.entries) c.enter.ensures.commits c.self.invariant.3,
+      room_commit was spare before after room (commit_more c.self.inside.log.entries c.enter.new.log.entries ended _ c.enter.ensures.commits),
+    )

@@ -1,0 +1,5 @@
+pub mod Branching
+pub mod Comparing
+pub mod Naming
+pub mod Transaction
+pub mod Working

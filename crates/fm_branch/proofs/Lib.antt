@@ -1,0 +1,10 @@
+pub mod Folding
+pub mod Given
+pub mod HeldLaws
+pub mod HistoryLaws
+pub mod Lists
+pub mod Maps
+pub mod Numbers
+pub mod Results
+pub mod Settled
+pub mod TableLaws

@@ -1,0 +1,11 @@
+-- Which numbers an opening may have.
+use Rattle.std.proofs.Common.{◌≡◌, ℕ, ◌+◌, ◌-◌, ◌≤◌, cond, Some, None, ap, ◌∙◌, arith}
+use Rattle.std.proofs.lemmas.Bool.{lt-ltb}
+use Rattle.dl_base.specs.declared.fault.Full.TheVariants as fulls
+use Rattle.fm_branch.specs.Linked.{most_numbers, opening_full}
+
+pub opening_ends : (n : ℕ) → 4294967294 ≤ n → opening_full (n + 1) ≡ Some (fulls.Openings n)
+opening_ends n le =
+    let same : n + 1 - 1 ≡ n = omega arith in
+    ap (λ b. cond b (Some (fulls.Openings (n + 1 - 1))) None) (lt-ltb most_numbers (n + 1) (omega (arith, le)))
+    ∙ ap (λ (m : ℕ). Some (fulls.Openings m)) same
