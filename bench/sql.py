@@ -7,8 +7,8 @@ of three runs, or of one where it takes more than five seconds. An answer that i
 that Python brings along; its time is that of handing it the same statements one by one and taking their rows.
 
 Printed are: INSERTs of a row each into a table with a key, 10,000 and 20,000 of them; UPDATE, DELETE and SELECT by key over 1,000 and
-over 100,000 rows, for one statement; joins by a key; a join of three tables of 200 rows; a COUNT over 10,000,000 combined rows, with its
-peak of memory; SELECTs that look at all rows, ORDER BY and GROUP BY; and how many bytes a row takes.
+over 100,000 rows, for one statement; joins by a key; a join of three tables of 200 rows; a COUNT over 10,000,000 combined rows and
+GROUP BY over as many, with the peak of memory; SELECTs that look at all rows, ORDER BY and GROUP BY; and how many bytes a row takes.
 
 With a word, only the kinds whose name has it are measured.
 """
@@ -84,6 +84,10 @@ def three_by_other_columns(rows):
 
 def counted(rows, others):
     return table("a", rows) + table("b", others), [("SELECT COUNT(*) FROM a, b", "rows 1")]
+
+
+def counted_in_groups(rows, others):
+    return table("a", rows) + table("b", others), [("SELECT b.id, COUNT(*), SUM(a.v) FROM a, b GROUP BY b.id", "rows %d" % others)]
 
 
 def filters(rows):
@@ -187,9 +191,9 @@ def one(name, made):
     return peak
 
 
-def product():
-    peak = one("COUNT(*) over 10,000,000 combined rows", counted(10_000, 1_000))
-    _, before = ours(counted(10_000, 1_000)[0])
+def product(name, make):
+    peak = one(name, make(10_000, 1_000))
+    _, before = ours(make(10_000, 1_000)[0])
     print("  a peak of %.1f MB, and of %.1f MB without it" % (peak / 1e6, before / 1e6), flush=True)
 
 
@@ -208,7 +212,8 @@ KINDS = {
     "join by key": lambda: one("a join by key of 10,000 rows with 1,000", join(10_000, 1_000)),
     "three-way join by key": lambda: one("a join by key of three tables of 200 rows", three(200)),
     "three-way join": lambda: one("a join of three tables of 200 rows by columns that are no keys", three_by_other_columns(200)),
-    "COUNT": product,
+    "COUNT": lambda: product("COUNT(*) over 10,000,000 combined rows", counted),
+    "GROUP BY of combined rows": lambda: product("1,000 groups of 10,000,000 combined rows, with their counts and sums", counted_in_groups),
     "SELECT of all rows": lambda: one("20 SELECTs with a WHERE on each of 10,000 rows", filters(10_000)),
     "ORDER BY": lambda: twice("rows in ORDER BY two columns", orders, 10_000),
     "GROUP BY": lambda: twice("rows in GROUP BY a text", groups, 10_000),

@@ -1,5 +1,7 @@
 pub mod Sources
 pub mod Reach
 pub mod Seeking
+pub mod Keys
+pub mod Grouping
 pub mod Keeping
 pub mod Walking

@@ -4,3 +4,4 @@ pub mod Orders
 pub mod Merging
 pub mod Groups
 pub mod Whole
+pub mod Turns

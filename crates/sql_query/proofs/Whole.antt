@@ -23,7 +23,8 @@ use Rattle.meaning_statements.specs.Selecting.{are_few, OutputColumn, star, outp
 use Rattle.meaning_statements.specs.Sources.{Source, sources_of, columns_of}
 use Rattle.meaning_tables.specs.Tables.{Tables}
 use Rattle.sql_query.specs.Answering.{of_group, by_way, answers_of}
-use Rattle.sql_query.specs.Grouping.{first_row, key_at}
+use Rattle.sql_join.specs.Grouping.{key_at}
+use Rattle.sql_query.specs.Grouping.{first_row}
 use Rattle.sql_query.specs.Items.{star_type, item_type, types_of, cells_from, answer_of, places_of, is_column_named, is_item_named, place_named, width, place_by, type_if, type_shown, key_found}
 use Rattle.sql_query.specs.Planning.{planned, selected, chosen, answered}
 

@@ -1,6 +1,5 @@
 pub mod Items
 pub mod Folding
-pub mod Keys
 pub mod Ordering
 pub mod Merging
 pub mod Grouping

@@ -1,25 +1,19 @@
-// GROUP BY: whether a query groups, by which places, and the groups in order of first appearance.
-ghost use Rattle.std.specs.Prelude.{◌≡◌, [], IfOk, None, OnOk};
-ghost use Rattle.std.specs.Cmp.Lexicographic.{pointwise};
+// GROUP BY: whether a query groups, and by which places.
+ghost use Rattle.std.specs.Prelude.{◌≡◌, IfOk};
 ghost use Rattle.std.specs.List.{list_any};
-ghost use Rattle.std.specs.Map.{lookup, values_of};
 ghost use Rattle.std.specs.Option.{option_to_list};
 ghost use Rattle.meaning_sql.specs.Columns as columns_meant;
 ghost use Rattle.meaning_sql.specs.Faults.{Computes, try_map};
 ghost use Rattle.meaning_sql.specs.Types.{kind_type};
-ghost use Rattle.meaning_statements.specs.Lists.{groups};
 ghost use Rattle.meaning_statements.specs.Selecting as meant;
-ghost use Rattle.sql_query.specs.Grouping.{key_at, known_places, row_grouped, rows_grouped};
+ghost use Rattle.sql_query.specs.Grouping.{known_places, places_apart};
 
-use crate::group_key::GroupKey;
 use crate::keys::is_key;
-use dl_base::{Item, List, Memory, Ref, Row, Select, SqlFault};
-use indexmap::IndexMap;
+use dl_base::{Item, List, Memory, Ref, Select, SqlFault};
 use meaning_sql::{AggregateScope, Columns, SqlType};
 use sql_expr::{kind_type, place_of};
 use sql_join::has_aggregate;
 use std::alloc::Global;
-use std::collections::VecDeque;
 
 /// Whether a query groups: it has GROUP BY, or an aggregate in an item.
 pub(crate) fn is_grouped(query: &Select) -> bool
@@ -30,6 +24,13 @@ pub(crate) fn is_grouped(query: &Select) -> bool
         None => false,
     };
     query.group.len() != 0 || by_aggregate
+}
+
+/// The places by which groups are told apart: none where the query does not group.
+pub(crate) fn places_apart<'a>(query: &Select, places: &'a [usize]) -> &'a [usize]
+    ensures { result.now ≡ places_apart (meant.is_grouped query.now) places.now }
+{
+    if is_grouped(query) { places } else { &[] }
 }
 
 fn have_aggregate(items: &[Item]) -> bool
@@ -109,68 +110,4 @@ fn type_at(columns: &Columns, place: usize) -> SqlType
         Some(c) => kind_type(c.1.kind),
         None => SqlType::Int,
     }
-}
-
-/// The rows by groups, in order of first appearance, the rows of each in order. Its cost grows with the rows.
-pub(crate) fn grouped(
-    alloc: Global,
-    places: &[usize],
-    rows: List<Row>,
-) -> Result<IndexMap<GroupKey, List<Row>>, Memory>
-    ensures { IfOk result (λ made. values_of made.entries ≡ groups (pointwise meant.same_value) (key_at places.now) rows) }
-{
-    match put_rows(alloc, places, VecDeque::from_vec(rows.into_vec())) {
-        Ok(made) => Ok(made),
-        Err(memory) => Err(memory),
-    }
-}
-
-fn put_rows(
-    alloc: Global,
-    places: &[usize],
-    rows: VecDeque<Row>,
-) -> Result<IndexMap<GroupKey, List<Row>>, Memory>
-    ensures { IfOk result (λ made. made.entries ≡ rows_grouped places.now [] rows.items) }
-{
-    let mut left = rows;
-    let mut made = IndexMap::new(alloc);
-    'rows: while let Some(row) = left.pop_front() {
-        let key = GroupKey::of(alloc, places, &row)?;
-        put_row(alloc, &mut made, key, row)?;
-    }
-    Ok(made)
-}
-
-// Puts a row behind those of its group, or as a new group behind all.
-fn put_row(
-    alloc: Global,
-    groups: &mut IndexMap<GroupKey, List<Row>>,
-    key: GroupKey,
-    row: Row,
-) -> Result<(), Memory>
-    ensures { OnOk result (groups.new.entries ≡ row_grouped groups.old.entries key row) }
-{
-    match groups.get_mut(&key) {
-        Some(group) => {
-            group.push(row)?;
-            Ok(())
-        }
-        None => put_group(alloc, groups, key, row),
-    }
-}
-
-#[tactic(auto, using(crate::proofs::Groups::put_new))]
-fn put_group(
-    alloc: Global,
-    groups: &mut IndexMap<GroupKey, List<Row>>,
-    key: GroupKey,
-    row: Row,
-) -> Result<(), Memory>
-    requires { lookup (pointwise meant.same_value key) groups.old.entries ≡ None }
-    ensures { OnOk result (groups.new.entries ≡ row_grouped groups.old.entries key row) }
-{
-    let mut group = List::empty(alloc);
-    group.push(row)?;
-    groups.insert(key, group)?;
-    Ok(())
 }

@@ -3,7 +3,6 @@
 
 mod answering;
 mod folding;
-mod group_key;
 mod grouping;
 mod items;
 mod keys;

@@ -11,7 +11,7 @@ ghost use Rattle.sql_join.specs.Walking.{AllFit};
 
 use crate::answering::shown;
 use crate::folding::{have_operand, is_folding};
-use crate::grouping::{group_places, scope_of};
+use crate::grouping::{group_places, places_apart, scope_of};
 use crate::items::item_types;
 use crate::keys::order_keys;
 use crate::sorting::sorted;
@@ -28,8 +28,8 @@ use std::alloc::Global;
 /// `BadLink`); or there is no `Memory`. A condition is asked as soon as the sources are combined whose columns it and the conditions
 /// before it name, and ends what is behind them; a source whose key they ask to be a number, a text, or a cell of a source before it is
 /// looked up: its cost grows with the rows combined so, with the rows that are kept, and as n log n with the answers that are sorted.
-/// Without GROUP BY, and with no aggregate but items that are one over columns, one row
-/// alone is kept. The rows of tables fit.
+/// Of a query with GROUP BY or an aggregate, and with no aggregate but items that are one over columns, one row a group alone is kept.
+/// The rows of tables fit.
 pub fn select(
     alloc: Global,
     tables: &Tables,
@@ -110,7 +110,7 @@ fn answered(
     Ok(sorted(alloc, made, plan.keys.as_slice())?)
 }
 
-// What is shown of the combined rows. Of a query that folds, the first one alone is kept.
+// What is shown of the combined rows. Of a query that folds, the first one of each group alone is kept.
 fn rows_shown(
     alloc: Global,
     sources: &[Source],
@@ -124,9 +124,10 @@ fn rows_shown(
     requires fit { AllFit sources.now }
     ensures { Computes (λ r. r) result (and_then (meant.combined sources.now context.entry.now (query.now.conditions ++ option_list query.now.filter)) (answers_of columns.now context.entry.now query.now places.now)) }
 {
-    let folds = is_folding(query, places);
+    let folds = is_folding(query);
     let items = folded_items(query, folds);
-    match combined(alloc, sources, query, columns, context, items, folds) {
+    let apart = places_apart(query, places);
+    match combined(alloc, sources, query, columns, context, items, folds, apart) {
         Ok(kept) => shown(alloc, query, columns, context, places, kept),
         Err(fault) => Err(fault),
     }
