@@ -1,4 +1,3 @@
-pub mod Alone
 pub mod Committing
 pub mod Ending
 pub mod Folding

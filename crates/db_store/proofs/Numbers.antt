@@ -11,9 +11,6 @@ use Rattle.db_store.specs.Store.{draw_full, most_numbers, opening_full}
 abbrev faults : Option Full → Option AppendFault
 faults o = option_map (λ f. appends.Full f) o
 
-pub opening_fits : (n : ℕ) → n < 4294967294 → opening_full (n + 1) ≡ None
-opening_fits n lt = ap (λ b. cond b (Some (fulls.Openings (n + 1 - 1))) None) (le-ltb most_numbers (n + 1) (omega (arith, lt)))
-
 pub opening_ends : (n : ℕ) → 4294967294 ≤ n → opening_full (n + 1) ≡ Some (fulls.Openings n)
 opening_ends n le =
     let same : n + 1 - 1 ≡ n = omega arith in

@@ -7,9 +7,6 @@ room_for n a b e live count p q r s = omega (arith, p, q, r, s)
 pub more_room : (a b c d e f live : ℕ) → a ≤ c → b ≤ d → e ≤ f → min (min a (b / 256)) (e - live) ≤ min (min c (d / 256)) (f - live)
 more_room a b c d e f live p q r = omega (arith, p, q, r)
 
-pub room_left : (a b c d n : ℕ) → a ≤ c + 1 → b ≤ d + n → n ≤ 256 → min a (b / 256) ≤ min c (d / 256) + 1
-room_left a b c d n p q r = omega (arith, p, q, r)
-
 pub room_tables : (n a b : ℕ) → n ≤ 256 → 0 < min a (b / 256) → n ≤ b
 room_tables n a b p q = omega (arith, p, q)
 

@@ -1,5 +1,5 @@
 -- Tables and rows that are compared place by place, of rows only the touched ones.
-use Rattle.std.proofs.Common.{◌≡◌, ◌≢◌, ℕ, zero, suc, ◌+◌, ◌==◌, ◌&&◌, Bool, true, false, not, cond, List, [], ◌∷◌, ◌++◌, drop, length, bytes_eq, Some, None, refl, sym, ◌∙◌, ap, subst, add-one}
+use Rattle.std.proofs.Common.{◌≡◌, ℕ, zero, suc, ◌+◌, ◌==◌, ◌&&◌, Bool, true, false, not, List, [], ◌∷◌, ◌++◌, drop, bytes_eq, Some, None, refl, sym, ◌∙◌, ap, subst, add-one}
 use Rattle.std.specs.Cmp.Lexicographic.{pointwise}
 use Rattle.std.specs.List.{list_all, slice_get}
 use Rattle.std.specs.List.Sorted.{IsStrictlySortedBy}
@@ -11,10 +11,10 @@ use Rattle.db_changes.specs.Made.{change_at, changes_at}
 use Rattle.db_changes.specs.Touched.{Agree, AreCommitted, Covers, Touched, numbers_of}
 use Rattle.db_changes.proofs.Fates.{changes-none, changes-some, found-at}
 use Rattle.db_changes.proofs.RowsTouched.{no_changes, rows-same}
-use Rattle.meaning_areas.specs.Same.{same_row, same_rows, same_tables}
+use Rattle.meaning_areas.specs.Same.{same_row, same_tables}
 use Rattle.meaning_merge.proofs.Keeping.{name-same}
 use Rattle.meaning_merge.proofs.Numbers.{both}
-use Rattle.meaning_merge.specs.Merging.{AreNamed, row_change, row_changes}
+use Rattle.meaning_merge.specs.Merging.{AreNamed, row_changes}
 use Rattle.meaning_system.specs.State.{is_empty}
 use Rattle.meaning_tables.specs.Tables.{Rise, Rows, Tables, row_of, table_of}
 use Rattle.db_txn.specs.Comparing.{same_at}
@@ -50,24 +50,6 @@ same_here xs ys i b is passes so_far = sym (ap (λ c. c && same_tables (drop (i 
 
 pub differs_here : (xs ys : Tables) (i : ℕ) (b : Bool) → b ≡ same_at (slice_get xs i) (slice_get ys i) → b ≡ false → same_tables (drop i xs) (drop i ys) ≡ same_tables xs ys → false ≡ same_tables xs ys
 differs_here xs ys i b is fails so_far = sym (ap (λ c. c && same_tables (drop (i + 1) xs) (drop (i + 1) ys)) (sym is ∙ fails)) ∙ sym (same-step xs ys i) ∙ so_far
-
--- lists of other lengths differ
-pub lengths_differ : (xs ys : Tables) → length xs ≢ length ys → false ≡ same_tables xs ys
-lengths_differ [] [] other = absurd (other refl)
-lengths_differ [] (y ∷ ys) other = refl
-lengths_differ (x ∷ xs) [] other = refl
-lengths_differ (x ∷ xs) (y ∷ ys) other = by (bytes_eq x.0 y.0 && same_rows x.1 y.1) (lengths_differ xs ys (λ same. other (ap (λ n. suc n) same)))
-  where
-    by : (b : Bool) → false ≡ same_tables xs ys → false ≡ (b && same_tables xs ys)
-    by true e = e
-    by false e = refl
-
-drop-length : {A : Type 0} (xs : List A) → drop (length xs) xs ≡ []
-drop-length [] = refl
-drop-length (x ∷ xs) = drop-length xs
-
-pub same_all : (xs ys : Tables) → length xs ≡ length ys → same_tables (drop (length xs) xs) (drop (length xs) ys) ≡ same_tables xs ys → true ≡ same_tables xs ys
-same_all xs ys long so_far = sym (ap (λ (us : Tables). same_tables us (drop (length xs) ys)) (drop-length xs) ∙ ap (λ (us : Tables). same_tables [] us) (ap (λ n. drop n ys) long ∙ drop-length ys)) ∙ so_far
 
 -- what is known of the tables at a place
 
@@ -109,17 +91,6 @@ pub row_differs_here : (was now : List (ℕ × Row)) (numbers : List ℕ) (i n :
 row_differs_here was now numbers i n b left is fails so_far =
     sym (ap (λ c. c && is_empty (changes_at was now (drop (i + 1) numbers))) (sym is ∙ fails)) ∙ sym (behind (At was now n) (changes_at was now (drop (i + 1) numbers)))
     ∙ sym (ap (λ (ns : List ℕ). is_empty (changes_at was now ns)) left) ∙ so_far
-
-pub rows_all : (was now : List (ℕ × Row)) (numbers : List ℕ) → is_empty (changes_at was now (drop (length numbers) numbers)) ≡ is_empty (changes_at was now numbers) → true ≡ is_empty (changes_at was now numbers)
-rows_all was now numbers so_far = sym (ap (λ (ns : List ℕ). is_empty (changes_at was now ns)) (drop-length numbers)) ∙ so_far
-
--- the change of a row that both have, and of one that one side has
-pub row_here : (was now : Row) (n : ℕ) (b : Bool) → b ≡ same_row (n, was) (n, now) → b ≡ is_empty (change_at (Some was) (Some now) n)
-row_here was now n b is = is ∙ by (same_row (n, was) (n, now))
-  where
-    by : (c : Bool) → c ≡ is_empty (cond c [] (row_change (n, now) ∷ []))
-    by true = refl
-    by false = refl
 
 none_is_empty : (cs : List RowChange) → is_empty cs ≡ no_changes cs
 none_is_empty [] = refl

@@ -73,7 +73,7 @@ impl Branches {
         // However it ends, the area reads as the list that it was, and a crash leaves an image of before or that list.
         ensures opens { OpensOne areas.Links (B.outside bench.old) (B.outside bench.new) }
 
-        ensures no_rows { (place : ℕ) → result ≡ Err (BeginFault.NotAJournal place) → (told : List ℕ) → (B.outside bench.old).reads areas.Links ≡ Some told → links_in told ≡ Err place }
+        ensures no_links { (place : ℕ) → result ≡ Err (BeginFault.NotAJournal place) → (told : List ℕ) → (B.outside bench.old).reads areas.Links ≡ Some told → links_in told ≡ Err place }
         ensures untouched { (place : ℕ) → result ≡ Err (BeginFault.NotAJournal place) → IsUnwritten areas.Links (B.outside bench.old) (B.outside bench.new) }
         ensures device { result ≡ Err BeginFault.Device → FaultCounted (B.outside bench.old) (B.outside bench.new) }
     {
