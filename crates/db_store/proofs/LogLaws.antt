@@ -197,3 +197,29 @@ past_done ts cs ds i count le is =
 
 pub past_none : (es : List (ℕ × Entry)) (n : ℕ) → length es < n → None ≡ past [] (commits_from [] es) n
 past_none es n lt = sym (past-none [] es n lt)
+
+-- one commit more, from the tables before it
+
+some-tables : (t u : Tables) → Some t ≡ Some u → t ≡ u
+some-tables t u e = cc
+
+no-tables : (t : Tables) → None ≡ Some t → ⊥
+no-tables t e = cc
+
+pub next-new : (before ts : Tables) (es : List (ℕ × Entry)) (n : ℕ) → past before (commits_from before es) n ≡ Some ts → all_new before es ≡ true → all_new ts (drop n es) ≡ true
+next-new before ts es zero is new = subst (λ (us : Tables). all_new us es ≡ true) (some-tables before ts is) new
+next-new before ts [] (suc n) is new = absurd (no-tables ts is)
+next-new before ts (e ∷ es) (suc n) is new = next-new (applied before e.1.changes) ts es n is (and_parts (are_new before e.1.changes) (all_new (applied before e.1.changes) es) new).1
+
+pub next-past : (before ts : Tables) (es : List (ℕ × Entry)) (n : ℕ) → n < length es → past before (commits_from before es) n ≡ Some ts → Some (after_first ts (drop n es)) ≡ past before (commits_from before es) (suc n)
+next-past before ts [] n lt is = absurd (omega (arith, lt))
+next-past before ts (e ∷ es) zero lt is = ap (λ (us : Tables). Some (applied us e.1.changes)) (sym (some-tables before ts is))
+next-past before ts (e ∷ es) (suc n) lt is = next-past (applied before e.1.changes) ts es n (omega (arith, lt)) is
+
+-- the same by the commit's number, from 1
+pub next_past : (ts later : Tables) (es : List (ℕ × Entry)) (commit : ℕ) → 1 ≤ commit → commit ≤ length es → past [] (commits_from [] es) (commit - 1) ≡ Some ts → later ≡ after_first ts (drop (commit - 1) es)
+    → Some later ≡ past [] (commits_from [] es) commit
+next_past ts later es commit first last is made =
+    let within : commit - 1 < length es = omega (arith, first, last) in
+    let number : suc (commit - 1) ≡ commit = omega (arith, first) in
+    ap (λ (us : Tables). Some us) made ∙ next-past [] ts es (commit - 1) within is ∙ ap (λ (n : ℕ). past [] (commits_from [] es) n) number

@@ -1,5 +1,5 @@
 // Changes done to tables with room for more.
-ghost use Rattle.std.specs.Prelude.{◌≡◌, ◌≤◌, [], IfOk, IsTrue, OnOk, Some, drop, length, true};
+ghost use Rattle.std.specs.Prelude.{◌≡◌, ◌-◌, ◌≤◌, [], IfOk, IsTrue, OnOk, Some, drop, length, true};
 ghost use Rattle.db_replay.specs.Applying.{AreNew, is_new};
 ghost use Rattle.db_replay.specs.Changes.{apply, applied};
 ghost use Rattle.db_store.specs.Log.{AllNew, after_first, all_new, commits_from};
@@ -79,5 +79,23 @@ pub fn past_tables(alloc: Global, log: &Log, commit: u64) -> Result<Option<Table
         return Ok(None);
     }
     let tables = tables_at(alloc, log, commit as usize)?;
+    Ok(Some(tables.into_tables()))
+}
+
+/// The tables after a commit, from 1, from those before it; None exactly where there is no such commit. They share what they have with
+/// other tables. The cost grows with the number of changes of this commit, and with the number of tables.
+#[tactic(auto, using(crate::proofs::LogLaws::past_none))]
+pub fn next_tables(log: &Log, commit: u64, before: Tables) -> Result<Option<Tables>, Memory>
+    requires first { 1 ≤ commit }
+    requires new { AllNew log.now.entries }
+    requires before { past [] (commits_from [] log.now.entries) (commit - 1) ≡ Some before }
+    ensures { IfOk result (λ tables. tables ≡ past [] (commits_from [] log.now.entries) commit) }
+{
+    if commit > log.len() as u64 {
+        drop(before);
+        return Ok(None);
+    }
+    let mut tables = RoomyTables::of(before);
+    apply_entry(&mut tables, log, (commit - 1) as usize)?;
     Ok(Some(tables.into_tables()))
 }

@@ -1,5 +1,5 @@
 // The commits that are open on a bench.
-ghost use Rattle.std.specs.Prelude.{◌≡◌, ◌+◌, ◌≤◌, ◌^◌, ◌∷◌, [], ℕ, List, Some, Ok, Err, IfOk, IfSome, OnOk, OnErr, is_some, length};
+ghost use Rattle.std.specs.Prelude.{◌≡◌, ◌+◌, ◌-◌, ◌≤◌, ◌^◌, ◌∷◌, [], ℕ, List, Some, Ok, Err, IfOk, IfSome, OnOk, OnErr, is_some, length};
 ghost use Rattle.std.specs.Option.{option_map};
 ghost use Rattle.std.specs.Result.{result_err};
 ghost use Rattle.dl_areas.specs.Opening.{IsOpened, OpensOne};
@@ -17,7 +17,7 @@ ghost use Rattle.db_changes.specs.Touched.{AreCommitted};
 ghost use Rattle.db_store.specs.Log.{AllCommitted, AllNew, commit_numbered, open_branches};
 ghost use Rattle.db_store.specs.Store.{CanEnd, IsTaken, commit_write, committed_with, draw_full, drawn_next, ended_write, extent, most_numbers, opening_write, reopened, rows_in};
 
-use crate::apply::past_tables;
+use crate::apply::{next_tables, past_tables};
 use crate::ended::Ended;
 use crate::enter::{enter, make_room};
 use crate::fold::fold;
@@ -140,6 +140,18 @@ impl Store {
         ensures committed { IfOk result (λ tables. IfSome tables AreCommitted) }
     {
         past_tables(self.alloc, &self.log, commit)
+    }
+
+    /// The tables after a commit, from 1, from those before it; None exactly where there is no such commit. So going through all
+    /// commits does the changes of each once. They share what they have with other tables; the cost grows with the number of changes
+    /// of this commit, and with the number of tables. The error is want of memory, and changes nothing.
+    pub fn next(&self, commit: u64, before: Tables) -> Result<Option<Tables>, Memory>
+        requires first { 1 ≤ commit }
+        requires before { past [] self.now.rows.commits (commit - 1) ≡ Some before }
+        ensures tables { IfOk result (λ tables. tables ≡ past [] self.now.rows.commits commit) }
+        ensures committed { IfOk result (λ tables. IfSome tables AreCommitted) }
+    {
+        next_tables(&self.log, commit, before)
     }
 
     /// How many commits there are.

@@ -66,6 +66,7 @@ impl Archive {
 
         ensures no_copies { (place : ℕ) → result ≡ Err (BeginFault.NotAJournal place) → (told : List ℕ) → (B.outside bench.old).reads areas.Archive ≡ Some told → copies_told told ≡ Err place }
         ensures untouched { (place : ℕ) → result ≡ Err (BeginFault.NotAJournal place) → IsUnwritten areas.Archive (B.outside bench.old) (B.outside bench.new) }
+        ensures memory { result ≡ Err BeginFault.Memory → IsUnwritten areas.Archive (B.outside bench.old) (B.outside bench.new) }
         ensures device { result ≡ Err BeginFault.Device → FaultCounted (B.outside bench.old) (B.outside bench.new) }
     {
         let (journal, bodies) = Journal::begin(alloc, bench, Area::Archive, limit)?;

@@ -1,5 +1,5 @@
 // The fold of the area Archive.
-ghost use Rattle.std.specs.Prelude.{◌≡◌, ◌≢◌, ◌<◌, ◌^◌, ℕ, Ok, Err, IfOk, bytes_eq, length};
+ghost use Rattle.std.specs.Prelude.{◌≡◌, ◌≢◌, ◌<◌, ◌^◌, ℕ, Ok, Err, IfOk, OnErr, bytes_eq, length};
 ghost use Rattle.std.specs.Bool.{then_some};
 ghost use Rattle.std.specs.FinMap as maps;
 ghost use Rattle.dl_journal.specs.Records.{size};
@@ -51,11 +51,12 @@ fn take_record(alloc: Global, table: &mut CopyTable, body: &[u8]) -> Result<bool
     }
 }
 
-/// The copies that a list of bodies stands for, or the place of the first record that the fold refuses.
+/// The copies that a list of bodies stands for, or the place of the first record that the fold refuses. No bodies take no memory.
 pub fn fold(alloc: Global, bodies: &List<Text>) -> Result<CopyTable, BeginFault>
     requires { size bodies.now < 2 ^ 63 }
     ensures copies { IfOk result (λ table. copies_of bodies.now ≡ Ok table.copies) }
-    ensures refused { (place : ℕ) → result ≡ Err (BeginFault.NotAJournal place) → (copies_of bodies.now ≡ Err place) × (0 < length bodies.now) }
+    ensures refused { (place : ℕ) → result ≡ Err (BeginFault.NotAJournal place) → copies_of bodies.now ≡ Err place }
+    ensures some { OnErr result (0 < length bodies.now) }
     ensures no_device { result ≢ Err BeginFault.Device }
 {
     let mut table = CopyTable::empty(alloc);

@@ -1,3 +1,4 @@
+pub mod Ends
 pub mod Folding
 pub mod Given
 pub mod HeldLaws

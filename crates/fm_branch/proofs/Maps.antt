@@ -90,6 +90,23 @@ module _ {K X : Type 0} {R : K → K → Ordering} (o : IsTotalOrder R) where
         get-of new q ∙ updates q ∙ (λ i. cond (turned o k q i) (Some v) (sym (get-of old q) i))
         ∙ sym (maps.get-insert o (maps.from_entries old) k v q))
 
+    pub of-removed : (old new : List (K × X)) (k : K)
+        → ((q : K) → lookup (is_at (R q)) new ≡ cond (is_eq (R k q)) None (lookup (is_at (R q)) old))
+        → maps.from_entries {R = R} new ≡ maps.remove (maps.from_entries old) k
+    of-removed old new k updates = maps.same_map o only _ _ (λ q.
+        get-of new q ∙ updates q ∙ (λ i. cond (turned o k q i) None (sym (get-of old q) i))
+        ∙ sym (maps.get-remove o (maps.from_entries old) k q))
+
+    -- what was put in at a new key, taken out again
+    pub removed-put : (m : maps.FinMap R X) (k : K) (v : X) → maps.get m k ≡ None → maps.remove (maps.insert m k v) k ≡ m
+    removed-put m k v new = maps.same_map o only _ _ (λ q.
+        maps.get-remove o (maps.insert m k v) k q ∙ ap (λ (x : Option X). cond (eq_by_cmp R q k) None x) (maps.get-insert o m k v q)
+        ∙ by q (eq_by_cmp R q k) refl)
+      where
+        by : (q : K) (b : Bool) → eq_by_cmp R q k ≡ b → cond b None (cond b (Some v) (maps.get m q)) ≡ maps.get m q
+        by q true same = sym (ap (λ (x : K). maps.get m x) (same_key only q k same) ∙ new)
+        by q false other = refl
+
     module _ (old new : List (K × X)) (k : K) (others : (q : K) → is_eq (R k q) ≡ false → lookup (is_at (R q)) new ≡ lookup (is_at (R q)) old) where
       -- a key with a new value, where the other keys keep theirs
       pub of-renewed : (v : X) → lookup (is_at (R k)) new ≡ Some v → maps.from_entries {R = R} new ≡ maps.insert (maps.from_entries old) k v

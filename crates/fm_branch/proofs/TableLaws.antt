@@ -1,6 +1,8 @@
 -- Branches by the numbers of their transactions.
-use Rattle.std.proofs.Common.{◌≡◌, ℕ, ◌||◌, Bool, true, false, cond, List, [], ◌∷◌, ◌++◌, Option, Some, None, is_some, nat_eq, refl, sym, ap, ◌∙◌}
-use Rattle.std.specs.Cmp.{nat_cmp_total}
+use Rattle.std.proofs.Common.{◌≡◌, ℕ, ◌||◌, Bool, true, false, not, cond, List, [], ◌∷◌, ◌++◌, Option, Some, None, is_some, nat_eq, refl, sym, ap, ◌∙◌}
+use Rattle.std.proofs.lemmas.Bool.{and_from, and_parts}
+use Rattle.std.proofs.lemmas.List.{same_from_push}
+use Rattle.std.specs.Cmp.{nat_cmp_total, unsigned_ties}
 use Rattle.std.specs.FinMap as maps
 use Rattle.std.specs.FinMap.{nat_cmp-IsAntisymmetric}
 use Rattle.std.specs.List.Sorted.{IsStrictlySortedBy}
@@ -11,8 +13,8 @@ use Rattle.std.specs.Ordering.{eq_by_cmp, is_eq, nat_cmp}
 use Rattle.dl_codec.specs.declared.links.BranchPhase.{BranchPhase}
 use Rattle.meaning_areas.specs.Branches.{Branch, branch}
 use Rattle.meaning_areas.specs.Commits.{has_number}
-use Rattle.fm_branch.proofs.Maps.{entries-of, get-of, of-renewed, of-same, same-tied, tied-number}
-use Rattle.fm_branch.specs.Table.{AreNamed, Table, doubtful, in_doubt, with_phase}
+use Rattle.fm_branch.proofs.Maps.{entries-of, get-of, of-renewed, of-same, removed-put, same-tied, tied-number}
+use Rattle.fm_branch.specs.Table.{AreNamed, Numbered, Table, are_once, doubtful, in_doubt, with_last, with_phase}
 
 -- one branch more
 
@@ -39,8 +41,66 @@ named-more txs table tx b named q =
     by true = refl
     by false = refl
 
+pub new-number : (txs : List ℕ) (table : Table) (tx : ℕ) → AreNamed txs table → maps.get table tx ≡ None → has_number tx txs ≡ false
+new-number txs table tx named none = named tx ∙ ap (λ (o : Option Branch). is_some o) none
+
+pub once-more : (txs : List ℕ) (tx : ℕ) → are_once txs ≡ true → has_number tx txs ≡ false → are_once (txs ++ tx ∷ []) ≡ true
+once-more [] tx all new = refl
+once-more (t ∷ ts) tx all new =
+    let parts = and_parts (not (has_number t ts)) (are_once ts) all in
+    let apart = by (nat_eq t tx) (has_number tx ts) new in
+    let still = number-more t tx ts ∙ ap (λ b. b || has_number t ts) (sym (unsigned_ties t tx) ∙ apart.0) in
+    and_from (not (has_number t (ts ++ tx ∷ []))) (are_once (ts ++ tx ∷ [])) (ap not still ∙ parts.0) (once-more ts tx parts.1 apart.1)
+  where
+    by : (a b : Bool) → cond a true b ≡ false → (a ≡ false) × (b ≡ false)
+    by true b e = absurd cc
+    by false b e = (refl, e)
+
 pub none-named : AreNamed [] maps.empty
 none-named q = sym (ap is_some (maps.get-empty nat_cmp q))
+
+-- the last branch taken out again
+
+once-before : (txs : List ℕ) (tx : ℕ) → are_once (txs ++ tx ∷ []) ≡ true → (are_once txs ≡ true) × (has_number tx txs ≡ false)
+once-before [] tx all = (refl, refl)
+once-before (t ∷ ts) tx all =
+    let parts = and_parts (not (has_number t (ts ++ tx ∷ []))) (are_once (ts ++ tx ∷ [])) all in
+    let rest = once-before ts tx parts.1 in
+    let apart = by (eq_by_cmp nat_cmp t tx) (has_number t ts) (sym (ap not (number-more t tx ts)) ∙ parts.0) in (
+      and_from (not (has_number t ts)) (are_once ts) apart.1 rest.0,
+      ap (λ b. cond b true (has_number tx ts)) (unsigned_ties t tx ∙ apart.0) ∙ rest.1,
+    )
+  where
+    by : (a b : Bool) → not (a || b) ≡ true → (a ≡ false) × (not b ≡ true)
+    by true b e = absurd cc
+    by false b e = (refl, e)
+
+module _ (txs : List ℕ) (tx : ℕ) (once : are_once (txs ++ tx ∷ []) ≡ true) where
+  pub once-less : are_once txs ≡ true
+  once-less = (once-before txs tx once).0
+
+  pub named-less : (table : Table) → AreNamed (txs ++ tx ∷ []) table → AreNamed txs (maps.remove table tx)
+  named-less table named q = by (eq_by_cmp nat_cmp q tx) refl ∙ sym (ap (λ (o : Option Branch). is_some o) (maps.get-remove nat_cmp_total table tx q))
+    where
+      by : (t : Bool) → eq_by_cmp nat_cmp q tx ≡ t → has_number q txs ≡ is_some (cond t None (maps.get table q))
+      by true same = ap (λ (x : ℕ). has_number x txs) (same-tied q tx same) ∙ (once-before txs tx once).1
+      by false other = sym (number-more q tx txs ∙ ap (λ b. b || has_number q txs) other) ∙ named q
+
+pub still-there : (table : Table) (tx q : ℕ) (b : Branch) → maps.get (maps.remove table tx) q ≡ Some b → maps.get table q ≡ Some b
+still-there table tx q b e = by (eq_by_cmp nat_cmp q tx) (sym (maps.get-remove nat_cmp_total table tx q) ∙ e)
+  where
+    by : (t : Bool) → cond t None (maps.get table q) ≡ Some b → maps.get table q ≡ Some b
+    by true e = absurd cc
+    by false e = e
+
+module _ (before : Numbered) (tx : ℕ) (b : Branch) (new : maps.get before.table tx ≡ None) where
+  pub taken_back : (table : Table) (txs : List ℕ) (last : ℕ) → ◌≡◌ {A = Numbered} (record { table = table; prepared = txs ++ last ∷ [] }) (with_last before tx b)
+      → ◌≡◌ {A = Numbered} (record { table = maps.remove table last; prepared = txs }) before
+  taken_back table txs last e =
+      let same = same_from_push txs before.prepared last tx (ap (λ (n : Numbered). n.prepared) e) in
+      let back = ap (λ (t : Table). maps.remove t last) (ap (λ (n : Numbered). n.table) e) ∙ ap (λ (x : ℕ). maps.remove (maps.insert before.table tx b) x) same.1
+      ∙ removed-put nat_cmp_total nat_cmp-IsAntisymmetric before.table tx b new in
+      λ i. record { table = back i; prepared = same.0 i }
 
 -- another phase of a branch
 

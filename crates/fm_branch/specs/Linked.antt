@@ -13,7 +13,7 @@ use Rattle.dl_codec.specs.declared.links.LinksRecord.TheVariants as records
 use Rattle.dl_journal.specs.Extent.{Extent}
 use Rattle.dl_journal.specs.Records.{records as bodies_in}
 use Rattle.meaning_areas.specs.Areas.{branches_of}
-use Rattle.meaning_areas.specs.Branches.{Branch, Branches, links_step}
+use Rattle.meaning_areas.specs.Branches.{Branch, Branches, links_step, with_branch}
 use Rattle.fm_branch.specs.Codes.{branches_code}
 use Rattle.fm_branch.specs.Held.{Places, have_places}
 use Rattle.fm_branch.specs.Table.{Table}
@@ -25,6 +25,10 @@ pub record Recorded : Type 0 where
 
 abbrev pub recorded_code : Coded Recorded
 recorded_code = code_by (Branches × List ℕ) (coded× branches_code (coded_list coded_ℕ)) (λ r. (r.links, r.prepared)) (λ p. record { links = p.0; prepared = p.1 }) (λ _. refl)
+
+-- the same with the branch of one more transaction
+abbrev pub with_prepared : Recorded → ℕ → Branch → Recorded
+with_prepared r tx b = record { links = with_branch r.links tx b; prepared = r.prepared ++ tx ∷ [] }
 
 -- The same, how many bytes their area has up to behind the closing gate, and how many it may have.
 pub record Linked : Type 0 where

@@ -1,5 +1,5 @@
 -- Branches by the numbers of their transactions.
-use Rattle.std.specs.Prelude.{◌≡◌, ℕ, Bool, false, not, ◌||◌, List, map, filter, Option, Some, None, is_some, refl}
+use Rattle.std.specs.Prelude.{◌≡◌, ℕ, Bool, true, false, not, ◌&&◌, ◌||◌, List, [], ◌∷◌, ◌++◌, map, filter, Option, Some, None, is_some, refl}
 use Rattle.std.specs.Coded.{Coded, code_by, coded×, coded_ℕ, coded_list}
 use Rattle.std.specs.FinMap as maps
 use Rattle.std.specs.Ordering.{nat_cmp}
@@ -16,6 +16,11 @@ Table = maps.FinMap nat_cmp Branch
 abbrev pub AreNamed : List ℕ → Table → Type 0
 AreNamed prepared table = (tx : ℕ) → has_number tx prepared ≡ is_some (maps.get table tx)
 
+-- no transaction is there twice
+abbrev pub are_once : List ℕ → Bool
+are_once [] = true
+are_once (tx ∷ txs) = not (has_number tx txs) && are_once txs
+
 -- the branches, and their transactions in the order in which they were prepared
 pub record Numbered : Type 0 where
   pub table : Table
@@ -23,6 +28,10 @@ pub record Numbered : Type 0 where
 
 abbrev pub numbered_code : Coded Numbered
 numbered_code = code_by (Table × List ℕ) (coded× table_code (coded_list coded_ℕ)) (λ n. (n.table, n.prepared)) (λ p. record { table = p.0; prepared = p.1 }) (λ _. refl)
+
+-- the same with the branch of one more transaction
+abbrev pub with_last : Numbered → ℕ → Branch → Numbered
+with_last n tx b = record { table = maps.insert n.table tx b; prepared = n.prepared ++ tx ∷ [] }
 
 -- a branch is in doubt until it is done or aborted
 abbrev pub is_in_doubt : Branch → Bool

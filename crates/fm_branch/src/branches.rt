@@ -1,5 +1,5 @@
 // The branches that are open on a bench.
-ghost use Rattle.std.specs.Prelude.{◌≡◌, ◌≤◌, ◌^◌, ◌∷◌, [], ℕ, List, Some, Ok, Err, IfOk, OnOk, OnErr};
+ghost use Rattle.std.specs.Prelude.{◌≡◌, ◌≤◌, ◌^◌, ◌++◌, ◌∷◌, [], ℕ, List, Some, Ok, Err, IfOk, OnOk, OnErr};
 ghost use Rattle.std.specs.Cmp.Lexicographic.{slice_cmp};
 ghost use Rattle.std.specs.FinMap as maps;
 ghost use Rattle.std.specs.List.Sorted.{IsPermutation, IsSortedByKey};
@@ -7,7 +7,7 @@ ghost use Rattle.std.specs.Option.{option_map};
 ghost use Rattle.std.specs.Ordering.{nat_cmp};
 ghost use Rattle.std.specs.Result.{result_err};
 ghost use Rattle.dl_areas.specs.Opening.{IsOpened, OpensOne};
-ghost use Rattle.dl_areas.specs.Writing.{DoesAlone};
+ghost use Rattle.dl_areas.specs.Writing.{DoesAlone, EndsAlone};
 ghost use Rattle.dl_base.specs.Outside.{FaultCounted};
 ghost use Rattle.dl_base.specs.declared.area.Area.TheVariants as areas;
 ghost use Rattle.dl_codec.specs.declared.links.LinksRecord.TheVariants as records;
@@ -22,9 +22,11 @@ ghost use Rattle.meaning_settling.specs.Settling.{link_key};
 use crate::entry::Branch;
 use crate::fold::fold;
 use crate::history::History;
+use crate::vote::parts_of;
 use crate::write::{aborted_body, committed_body, done_body, opening_body, write};
-use dl_areas::an_append_writes_one_record;
-use dl_base::{AppendFault, Area, BeginFault, Bench, Full, LinkRow, List, Memory};
+use dl_areas::{an_append_writes_one_record, steps_end_so};
+use dl_base::{AppendFault, Area, BeginFault, Bench, Full, LinkRow, List, Memory, StepFault};
+use dl_codec::Taken;
 use dl_journal::Journal;
 use std::alloc::Global;
 use std::marker::Model;
@@ -75,6 +77,7 @@ impl Branches {
 
         ensures no_links { (place : ℕ) → result ≡ Err (BeginFault.NotAJournal place) → (told : List ℕ) → (B.outside bench.old).reads areas.Links ≡ Some told → links_in told ≡ Err place }
         ensures untouched { (place : ℕ) → result ≡ Err (BeginFault.NotAJournal place) → IsUnwritten areas.Links (B.outside bench.old) (B.outside bench.new) }
+        ensures memory { result ≡ Err BeginFault.Memory → IsUnwritten areas.Links (B.outside bench.old) (B.outside bench.new) }
         ensures device { result ≡ Err BeginFault.Device → FaultCounted (B.outside bench.old) (B.outside bench.new) }
     {
         let (journal, bodies) = Journal::begin(alloc, bench, Area::Links, limit)?;
@@ -106,6 +109,37 @@ impl Branches {
                 Ok(())
             }
             Err(fault) => Err(fault),
+        }
+    }
+
+    /// Writes the Prepared of a transaction that has none: it gives these links, which are held, and takes these on paths that are
+    /// free or given. It takes its memory before it writes. The errors are `Memory`, also where the record would have a list of 2^32
+    /// items; `Full(Area)` where the area has no room for the record; and `Device`, after which the area is to be opened again. It
+    /// costs the links, and a logarithm of the held ones for each take.
+    pub fn prepare<B: Bench>(
+        &mut self,
+        bench: &mut B,
+        tx: u64,
+        gives: List<LinkRow>,
+        takes: List<Taken>,
+    ) -> Result<(), StepFault>
+        requires ready { IsOpen (extent self.old) (B.outside bench.old) }
+        requires taken { IsTaken self.old.links (records.Prepared tx gives takes) }
+        ensures links { OnOk result (links_step self.old.links (records.Prepared tx gives takes) ≡ Some self.new.links) }
+        ensures prepared { OnOk result (self.new.prepared ≡ self.old.prepared ++ tx ∷ []) }
+        ensures limit { self.new.limit ≡ self.old.limit }
+        ensures err { OnErr result (self.new ≡ self.old) }
+        ensures ends { EndsAlone (extent self.old) (extent self.new) (write_for (records.Prepared tx gives takes) ∷ []) (result_err result) (B.outside bench.old) (B.outside bench.new) }
+    {
+        steps_end_so::<B>();
+        let (body, entry) = parts_of(self.alloc, tx, gives, takes)?;
+        self.history.enter(tx, entry)?;
+        match write(&mut self.journal, bench, body.as_slice()) {
+            Ok(()) => Ok(()),
+            Err(fault) => {
+                self.history.take_back();
+                Err(StepFault::from(fault))
+            }
         }
     }
 

@@ -1,5 +1,5 @@
 // The fold of the area Links.
-ghost use Rattle.std.specs.Prelude.{◌≡◌, ◌≢◌, ◌<◌, ◌++◌, ◌^◌, ℕ, Ok, Err, IfOk, length, true};
+ghost use Rattle.std.specs.Prelude.{◌≡◌, ◌≢◌, ◌<◌, ◌++◌, ◌^◌, ℕ, Ok, Err, IfOk, OnErr, length, true};
 ghost use Rattle.std.specs.Bool.{then_some};
 ghost use Rattle.dl_codec.specs.Layout.{whole};
 ghost use Rattle.dl_codec.specs.Links.{links_record};
@@ -27,12 +27,13 @@ fn take_record(alloc: Global, history: &mut History, body: &[u8]) -> Result<bool
     }
 }
 
-/// What a list of bodies stands for, or the place of the first record that the fold refuses.
+/// What a list of bodies stands for, or the place of the first record that the fold refuses. No bodies take no memory.
 pub fn fold(alloc: Global, bodies: &List<Text>) -> Result<History, BeginFault>
     requires { size bodies.now < 2 ^ 63 }
     ensures links { IfOk result (λ history. branches_of bodies.now ≡ Ok history.links) }
     ensures prepared { IfOk result (λ history. prepared_in bodies.now ≡ history.prepared) }
-    ensures refused { (place : ℕ) → result ≡ Err (BeginFault.NotAJournal place) → (branches_of bodies.now ≡ Err place) × (0 < length bodies.now) }
+    ensures refused { (place : ℕ) → result ≡ Err (BeginFault.NotAJournal place) → branches_of bodies.now ≡ Err place }
+    ensures some { OnErr result (0 < length bodies.now) }
     ensures no_device { result ≢ Err BeginFault.Device }
 {
     let mut history = History::empty(alloc);

@@ -1,5 +1,5 @@
 // What the records of the area Links stand for, so far.
-ghost use Rattle.std.specs.Prelude.{◌≡◌, ◌++◌, ◌∷◌, [], None, IfOk, OnOk, true};
+ghost use Rattle.std.specs.Prelude.{◌≡◌, ◌++◌, ◌∷◌, [], ℕ, None, IfOk, OnOk, OnErr, true};
 ghost use Rattle.std.specs.Bool.{then_some};
 ghost use Rattle.std.specs.FinMap as maps;
 ghost use Rattle.std.specs.List.Sorted.{IsPermutation, IsSortedByKey};
@@ -7,8 +7,9 @@ ghost use Rattle.std.specs.Option.{option_copied};
 ghost use Rattle.std.specs.Cmp.Lexicographic.{slice_cmp};
 ghost use Rattle.std.specs.Ordering.{nat_cmp};
 ghost use Rattle.dl_codec.specs.declared.links.BranchPhase.TheVariants as phases;
+ghost use Rattle.fm_branch.specs.Linked.{Recorded, with_prepared};
 ghost use Rattle.fm_branch.specs.Table.{AreNamed, in_doubt};
-ghost use Rattle.meaning_areas.specs.Branches.{branch, done_on, moved_by, moves_on, no_branches, opens_on, prepares_on, with_branch};
+ghost use Rattle.meaning_areas.specs.Branches.{Branch, branch, done_on, moved_by, moves_on, no_branches, opens_on, prepares_on, with_branch};
 ghost use Rattle.meaning_settling.specs.Settling.{link_key};
 
 use crate::entry::Entry;
@@ -105,15 +106,23 @@ impl History {
         }
     }
 
-    // Puts the branch of a transaction in that has none.
-    fn enter(&mut self, tx: u64, entry: Entry) -> Result<(), Memory>
+    /// Puts the branch of a transaction in that has none, with places for its takes; want of memory changes nothing, though places may
+    /// stay.
+    pub fn enter(&mut self, tx: u64, entry: Entry) -> Result<(), Memory>
         requires { maps.get self.old.links.table tx ≡ None }
-        ensures links { OnOk result (self.new.links ≡ with_branch self.old.links tx entry) }
-        ensures prepared { OnOk result (self.new.prepared ≡ self.old.prepared ++ tx ∷ []) }
+        ensures ok { OnOk result (self.new ≡ with_prepared self.old tx entry) }
+        ensures err { OnErr result (self.new ≡ self.old) }
     {
         make_places(&mut self.held, &entry)?;
         self.table.put(tx, entry)?;
         Ok(())
+    }
+
+    /// Takes the branch that was put in last out again, if there is one. It takes no memory.
+    pub fn take_back(&mut self)
+        ensures { (before : Recorded) (tx : ℕ) (b : Branch) → maps.get before.links.table tx ≡ None → self.old ≡ with_prepared before tx b → self.new ≡ before }
+    {
+        self.table.take_back();
     }
 
     /// Takes a Committed, and says whether it is of a branch that is Prepared. It takes no memory.

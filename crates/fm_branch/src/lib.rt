@@ -1,5 +1,5 @@
-//! The branches of transactions that give and take links, and the links that are held, in memory and in the area Links. The records
-//! that begin a branch are read from the area and not written yet, and claims are not built.
+//! The branches of transactions that give and take links, and the links that are held, in memory and in the area Links. Claims are
+//! not built.
 #![tactic(auto)]
 
 mod branches;

@@ -1,12 +1,12 @@
 // The branches in memory, by the numbers of their transactions.
-ghost use Rattle.std.specs.Prelude.{◌≡◌, ◌++◌, ◌∷◌, ◌<◌, [], ℕ, None, IfOk, OnOk, OnErr, false, vec_len};
+ghost use Rattle.std.specs.Prelude.{◌≡◌, ◌++◌, ◌∷◌, ◌<◌, [], ℕ, Some, None, IfOk, OnOk, OnErr, false, vec_len};
 ghost use Rattle.std.specs.Vec.{vec_capacity};
 ghost use Rattle.std.specs.BTreeMap.{IsOrdered, get};
 ghost use Rattle.std.specs.FinMap as maps;
 ghost use Rattle.std.specs.Option.{option_copied, option_map};
 ghost use Rattle.std.specs.Ordering.{is_eq, nat_cmp};
-ghost use Rattle.fm_branch.specs.Table.{AreNamed, doubtful, in_doubt, is_branch_at, with_phase};
-ghost use Rattle.meaning_areas.specs.Branches.{branch};
+ghost use Rattle.fm_branch.specs.Table.{AreNamed, Numbered, doubtful, in_doubt, is_branch_at, with_last, with_phase};
+ghost use Rattle.meaning_areas.specs.Branches.{Branch, branch};
 
 use crate::entry::Entry;
 use dl_base::{List, Memory};
@@ -24,8 +24,9 @@ pub struct BranchTable {
 }
 
 impl Model for BranchTable {
+    ghost use Rattle.std.specs.Prelude.{◌≡◌, true};
     ghost use Rattle.std.specs.FinMap.{from_entries};
-    ghost use Rattle.fm_branch.specs.Table.{AreNamed, Numbered, numbered_code};
+    ghost use Rattle.fm_branch.specs.Table.{AreNamed, Numbered, are_once, numbered_code};
 
     ghost Value = { Numbered };
 
@@ -33,7 +34,7 @@ impl Model for BranchTable {
 
     ghost view = { λ t. record { table = from_entries t.entries.entries; prepared = t.prepared.items } };
 
-    ghost invariant = { λ t. AreNamed t.prepared.items (from_entries t.entries.entries) };
+    ghost invariant = { λ t. AreNamed t.prepared.items (from_entries t.entries.entries) × (are_once t.prepared.items ≡ true) };
 }
 
 impl BranchTable {
@@ -66,13 +67,24 @@ impl BranchTable {
     /// Puts the branch of a transaction in that has none; want of memory changes nothing.
     pub fn put(&mut self, tx: u64, entry: Entry) -> Result<(), Memory>
         requires { maps.get self.old.table tx ≡ None }
-        ensures ok { OnOk result (self.new ≡ record { table = maps.insert self.old.table tx entry; prepared = self.old.prepared ++ tx ∷ [] }) }
+        ensures ok { OnOk result (self.new ≡ with_last self.old tx entry) }
         ensures err { OnErr result (self.new ≡ self.old) }
     {
         self.prepared.reserve(1)?;
         insert(&mut self.entries, tx, entry)?;
         push(&mut self.prepared, tx);
         Ok(())
+    }
+
+    /// Takes the branch that was put in last out again, if there is one. It takes no memory.
+    pub fn take_back(&mut self)
+        ensures back { (before : Numbered) (tx : ℕ) (b : Branch) → maps.get before.table tx ≡ None → self.old ≡ with_last before tx b → self.new ≡ before }
+        ensures fewer { (tx : ℕ) (b : Branch) → maps.get self.new.table tx ≡ Some b → maps.get self.old.table tx ≡ Some b }
+    {
+        let Some(tx) = self.prepared.pop() else {
+            return;
+        };
+        remove(&mut self.entries, tx);
     }
 
     /// Whether a transaction has a branch in this phase. It takes no memory.
@@ -107,6 +119,13 @@ fn insert(entries: &mut BTreeMap<u64, Entry>, tx: u64, entry: Entry) -> Result<(
 {
     entries.insert(tx, entry)?;
     Ok(())
+}
+
+// The branches without that of a transaction.
+fn remove(entries: &mut BTreeMap<u64, Entry>, tx: u64)
+    ensures { maps.from_entries {R = nat_cmp} entries.new.entries ≡ maps.remove (maps.from_entries entries.old.entries) tx }
+{
+    let _ = entries.remove(&tx);
 }
 
 // One number more, for which there is room.

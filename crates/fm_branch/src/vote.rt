@@ -1,18 +1,21 @@
-// What the fold asks of a Prepared.
+// What the fold asks of a Prepared, and what it makes of one.
 ghost use Rattle.std.specs.Prelude.{◌≡◌, ◌||◌, ℕ, List, IfOk, map, not};
 ghost use Rattle.std.specs.BTreeSet.{contains};
 ghost use Rattle.std.specs.Cmp.Lexicographic.{slice_cmp};
 ghost use Rattle.std.specs.FinMap as maps;
 ghost use Rattle.std.specs.List.{list_all, list_any};
 ghost use Rattle.std.specs.Ordering.{nat_cmp};
+ghost use Rattle.dl_codec.specs.Links.{links_record};
+ghost use Rattle.dl_codec.specs.declared.links.LinksRecord.TheVariants as records;
 ghost use Rattle.fm_branch.specs.Held.{held_in, with_held};
 ghost use Rattle.meaning_areas.specs.Branches.{branch, fills_stand, given_on, holds, is_free, may_prepare, moved_by};
 ghost use Rattle.dl_codec.specs.declared.links.BranchPhase.TheVariants as phases;
 
 use crate::entry::Entry;
 use crate::held::HeldLinks;
+use crate::write::body_of;
 use dl_base::{Copied, LinkRow, List, Memory, Path};
-use dl_codec::{BranchPhase, Taken};
+use dl_codec::{BranchPhase, LinksRecord, Taken};
 use std::alloc::Global;
 use std::collections::BTreeSet;
 
@@ -43,6 +46,26 @@ pub fn branch_of(alloc: Global, gives: List<LinkRow>, takes: List<Taken>) -> Res
         fill,
         phase: BranchPhase::Prepared,
     })
+}
+
+/// The body of a Prepared's record, and the branch that the record begins. A record with a list of 2^32 items has no body: it is
+/// answered `Memory`, as is want of memory.
+pub fn parts_of(
+    alloc: Global,
+    tx: u64,
+    gives: List<LinkRow>,
+    takes: List<Taken>,
+) -> Result<(List<u8>, Entry), Memory>
+    ensures body { IfOk result (λ made. made.0 ≡ links_record.spelling (records.Prepared tx gives takes)) }
+    ensures entry { IfOk result (λ made. made.1 ≡ branch (moved_by gives takes) phases.Prepared) }
+{
+    let record = LinksRecord::Prepared(tx, gives, takes);
+    let body = body_of(alloc, &record)?;
+    let LinksRecord::Prepared(_, gives, takes) = record else {
+        unreachable!();
+    };
+    let entry = branch_of(alloc, gives, takes)?;
+    Ok((body, entry))
 }
 
 // Whether all of some links are held. It takes no memory.

@@ -1,5 +1,5 @@
 // One record more in a journal.
-ghost use Rattle.std.specs.Prelude.{◌≡◌, ◌∷◌, [], None, OnOk, OnErr, length};
+ghost use Rattle.std.specs.Prelude.{◌≡◌, ◌∷◌, [], None, IfOk, OnOk, OnErr, length};
 ghost use Rattle.std.specs.Result.{result_err};
 ghost use Rattle.dl_areas.specs.Lists.{write_of};
 ghost use Rattle.dl_areas.specs.Writing.{DoesAlone};
@@ -9,8 +9,10 @@ ghost use Rattle.dl_codec.specs.declared.links.LinksRecord.TheVariants as record
 ghost use Rattle.dl_journal.specs.Open.{IsOpen, grown};
 
 use dl_areas::an_append_writes_one_record;
-use dl_base::{AppendFault, Bench};
+use dl_base::{AppendFault, Bench, List, Memory};
+use dl_codec::{LinksRecord, put_links_record};
 use dl_journal::Journal;
+use std::alloc::Global;
 
 /// Adds a record. It takes no memory.
 pub fn write<B: Bench>(journal: &mut Journal, bench: &mut B, body: &[u8]) -> Result<(), AppendFault>
@@ -29,6 +31,15 @@ pub fn opening_body(number: u32) -> [u8; 5]
 {
     let bytes = number.to_be_bytes();
     [1, bytes[0], bytes[1], bytes[2], bytes[3]]
+}
+
+/// The body of a record. One with a text or a list of 2^32 items has none: it is answered `Memory`, as is want of memory.
+pub fn body_of(alloc: Global, written: &LinksRecord) -> Result<List<u8>, Memory>
+    ensures { IfOk result (λ body. body ≡ links_record.spelling written.now) }
+{
+    let mut body = List::empty(alloc);
+    put_links_record(&mut body, written)?;
+    Ok(body)
 }
 
 /// The body of a Committed's record.

@@ -47,14 +47,3 @@ module _ (items : List (List ℕ)) (i place : ℕ) (body : List ℕ) (d : List �
 
   pub place_below : place ≡ size (take i items) → place + (9 + length body) ≤ size items
   place_below at = omega (arith, place_next at, size-append (take (i + 1) items) (drop (i + 1) items), ap size (take-append-drop (i + 1) items))
-
--- the first of some changes that are taken
-pub change_makes : {E : Type 0} (files later : Files) (c : FileChange) (cs : List FileChange) (r : Result Bool E) → IsOk r
-    → IfOk r (λ taken. MatchBool taken (with_change files c ≡ Some later) (with_change files c ≡ None))
-    → is_some (with_changes files (c ∷ cs)) ≡ true → with_changes files (c ∷ cs) ≡ with_changes later cs
-change_makes files later c cs (Ok true) ok is some = ap (λ (o : Option Files). option_and_then (λ (x : Files). with_changes x cs) o) is
-change_makes files later c cs (Ok false) ok is some = absurd (false_true (sym (ap (λ (o : Option Files). is_some (option_and_then (λ (x : Files). with_changes x cs) o)) is) ∙ some))
-  where
-    false_true : false ≡ true → ⊥
-    false_true e = cc
-change_makes files later c cs (Err fault) ok is some = absurd cc

@@ -1,3 +1,4 @@
+pub mod Alone
 pub mod Folding
 pub mod Listing
 pub mod Tables

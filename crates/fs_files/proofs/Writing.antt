@@ -13,63 +13,70 @@ use Rattle.dl_base.specs.declared.file.FileChange.TheVariants as changes
 use Rattle.dl_base.specs.declared.file.FileCmd.{FileCmd}
 use Rattle.dl_base.specs.declared.file.FileWhat.{FileWhat}
 use Rattle.dl_base.specs.declared.file.FileWhat.TheVariants as whats
+use Rattle.dl_codec.proofs.FilesSound.{whole_files_record}
 use Rattle.dl_codec.specs.Files.{files_record}
+use Rattle.dl_codec.specs.declared.files.FilesRecord.{FilesRecord}
 use Rattle.dl_codec.specs.declared.files.FilesRecord.TheVariants as records
 use Rattle.dl_journal.specs.Extent.{Extent}
 use Rattle.dl_journal.specs.Open.{Keeps, AddsOne, grown}
 use Rattle.dl_journal.specs.Records.{IsAtRest}
+use Rattle.dl_areas.specs.Batch.{writes_in}
+use Rattle.fs_files.specs.Batch.{Batch, batch_record, batch_write}
 use Rattle.fs_files.specs.Store.{Catalog, extent, Holds, Stands, StandsWithout, StandsAround, IsWriting, record_of}
-use Rattle.meaning_areas.proofs.FilesLaws.{files_of-push, files_step-user_record, file-there, command-does}
-use Rattle.meaning_areas.specs.FilesArea.{user_record, user_records, accepted_writes, writes}
+use Rattle.meaning_areas.proofs.FilesLaws.{files_of-push, file-there, command-does}
+use Rattle.meaning_areas.specs.FilesArea.{accepted_writes, files_step, user_record, user_records, with_record, writes}
 use Rattle.meaning_files.specs.Commands.{refusal_of, refusal, with_file, put, command_changes, changed}
 use Rattle.meaning_files.specs.Files.{Files, with_changes}
 
--- what a journal of the area Files and some files are seen as
-abbrev pub seen : Extent → Files → Catalog
-seen journal files = record { files = files; length = journal.length; limit = journal.limit }
+abbrev pub batch : ℕ → List FileChange → Batch
+batch tx made = record { tx = tx; changes = made }
 
-pub extent-seen : (journal : Extent) (files : Files) → journal.area ≡ areas.Files → extent (seen journal files) ≡ journal
-extent-seen journal files at = ap (λ (a : Area). record { area = a; length = journal.length; limit = journal.limit }) (sym at)
+-- the fold of a batch's record
+pub step-batch : (files : Files) (made : Batch) → files_record.fits (records.Batch made.tx made.changes) → files_step files (batch_record made) ≡ with_changes files made.changes
+step-batch files made fits = ap (λ (o : Option FilesRecord). with_record files o) (whole_files_record (records.Batch made.tx made.changes) fits)
 
--- one more record of a user
-pub holds_after : (now : Catalog) (j k : Extent) (files later : Files) (made : List FileChange) (body : List ℕ) (count : ℕ) (o n : Outside)
-    → seen j files ≡ now → j.area ≡ areas.Files → k ≡ grown j count → files_record.fits (records.Batch 0 made) → body ≡ user_record made
+-- what a journal of the area Files, some files and room for more are seen as
+abbrev pub seen : Extent → Files → ℕ → Catalog
+seen journal files spare = record { files = files; spare = spare; length = journal.length; limit = journal.limit }
+
+pub extent-seen : (journal : Extent) (files : Files) (spare : ℕ) → journal.area ≡ areas.Files → extent (seen journal files spare) ≡ journal
+extent-seen journal files spare at = ap (λ (a : Area). record { area = a; length = journal.length; limit = journal.limit }) (sym at)
+
+-- a batch's record more
+pub holds_after : (now : Catalog) (j k : Extent) (files later : Files) (spare left : ℕ) (made : Batch) (body : List ℕ) (count : ℕ) (o n : Outside)
+    → seen j files spare ≡ now → j.area ≡ areas.Files → k ≡ grown j count → files_record.fits (records.Batch made.tx made.changes) → body ≡ batch_record made
     → ((bodies : List (List ℕ)) → Keeps j bodies o → Keeps k (bodies ++ body ∷ []) n)
-    → with_changes files made ≡ Some later
-    → (bodies : List (List ℕ)) → Holds now bodies o → Holds (seen k later) (bodies ++ user_record made ∷ []) n
-holds_after now j k files later made body count o n view at grew fits is kept changed bodies held =
-    let was : Holds (seen j files) bodies o = subst (λ (c : Catalog). Holds c bodies o) (sym view) held in
-    let before : Keeps j bodies o = subst (λ (e : Extent). Keeps e bodies o) (extent-seen j files at) was.keeps in
-    let after : Keeps k (bodies ++ user_record made ∷ []) n = subst (λ (b : List ℕ). Keeps k (bodies ++ b ∷ []) n) is (kept bodies before) in
+    → with_changes files made.changes ≡ Some later
+    → (bodies : List (List ℕ)) → Holds now bodies o → Holds (seen k later left) (bodies ++ batch_record made ∷ []) n
+holds_after now j k files later spare left made body count o n view at grew fits is kept changed bodies held =
+    let was : Holds (seen j files spare) bodies o = subst (λ (c : Catalog). Holds c bodies o) (sym view) held in
+    let before : Keeps j bodies o = subst (λ (e : Extent). Keeps e bodies o) (extent-seen j files spare at) was.keeps in
+    let after : Keeps k (bodies ++ batch_record made ∷ []) n = subst (λ (b : List ℕ). Keeps k (bodies ++ b ∷ []) n) is (kept bodies before) in
     record {
-      keeps = subst (λ (e : Extent). Keeps e (bodies ++ user_record made ∷ []) n) (sym (extent-seen k later (ap (λ (e : Extent). e.area) grew ∙ at))) after;
-      stands = files_of-push bodies files later (user_record made) was.stands (files_step-user_record files made fits ∙ changed);
+      keeps = subst (λ (e : Extent). Keeps e (bodies ++ batch_record made ∷ []) n) (sym (extent-seen k later left (ap (λ (e : Extent). e.area) grew ∙ at))) after;
+      stands = files_of-push bodies files later (batch_record made) was.stands (step-batch files made fits ∙ changed);
     }
 
 -- each image of an area that holds a list has it
 pub holds_image : (now : Catalog) (bodies : List (List ℕ)) (o : Outside) → Holds now bodies o → (c : List ℕ) → o.image areas.Files c → Stands bodies now.files c
 holds_image now bodies o held c left = record { at_rest = held.keeps.images c left; stands = held.stands }
 
--- nothing was written
-pub writes_nothing : (now : Catalog) (made : List FileChange) (o : Outside) → ChangesOnly areas.Files (StandsWithout now made o) o o
-writes_nothing now made o = touches_none areas.Files (StandsWithout now made o) o (λ c left bodies later changed held. inl (holds_image now bodies o held c left))
-
 -- a record is appended
-pub writes_record : (now : Catalog) (j : Extent) (files : Files) (made : List FileChange) (body : List ℕ) (o n : Outside)
-    → seen j files ≡ now → j.area ≡ areas.Files → files_record.fits (records.Batch 0 made) → body ≡ user_record made
+pub writes_record : (now : Catalog) (j : Extent) (files : Files) (spare : ℕ) (made : Batch) (body : List ℕ) (o n : Outside)
+    → seen j files spare ≡ now → j.area ≡ areas.Files → files_record.fits (records.Batch made.tx made.changes) → body ≡ batch_record made
     → ChangesOnly j.area (AddsOne j body o) o n → ChangesOnly areas.Files (StandsWithout now made o) o n
-writes_record now j files made body o n view at fits is t =
+writes_record now j files spare made body o n view at fits is t =
     touches_more areas.Files (AddsOne j body o) (StandsWithout now made o) o n wider (subst (λ (a : Area). ChangesOnly a (AddsOne j body o) o n) at t)
   where
     wider : (c : List ℕ) → AddsOne j body o c → StandsWithout now made o c
     wider c adds bodies later changed held =
-        let was : Holds (seen j files) bodies o = subst (λ (k : Catalog). Holds k bodies o) (sym view) held in
-        let before : Keeps j bodies o = subst (λ (e : Extent). Keeps e bodies o) (extent-seen j files at) was.keeps in
+        let was : Holds (seen j files spare) bodies o = subst (λ (k : Catalog). Holds k bodies o) (sym view) held in
+        let before : Keeps j bodies o = subst (λ (e : Extent). Keeps e bodies o) (extent-seen j files spare at) was.keeps in
         ⊎_elim
         (λ old. inl (record { at_rest = old; stands = held.stands }))
         (λ new. inr (record {
           at_rest = subst (λ (b : List ℕ). IsAtRest (bodies ++ b ∷ []) c) is new;
-          stands = files_of-push bodies now.files later (user_record made) held.stands (files_step-user_record now.files made fits ∙ changed);
+          stands = files_of-push bodies now.files later (batch_record made) held.stands (step-batch now.files made fits ∙ changed);
         }))
         (adds bodies before)
 
@@ -98,20 +105,57 @@ writes-one files cmd accepted writing =
     ap (λ (o : Option FileRefusal). accepted_writes o (user_records (command_changes files cmd.user cmd.what))) accepted
     ∙ one-record files cmd.user cmd.what accepted writing
 
--- its changes are taken
-pub command-taken : (files : Files) (cmd : FileCmd) (made : List FileChange) → refusal files cmd ≡ None → made ≡ command_changes files cmd.user cmd.what → with_changes files made ≡ Some (changed files cmd)
-command-taken files cmd made accepted is = ap (λ (cs : List FileChange). with_changes files cs) is ∙ command-does files None cmd accepted
+-- A COMMAND'S BATCH, made in files that got room for it
+pub record Asked (was now : Catalog) (cmd : FileCmd) (made : Batch) : Type 0 where
+  pub accepted : refusal was.files cmd ≡ None
+  pub writing : IsWriting cmd.what
+  pub same : now ≡ record { files = was.files; spare = now.spare; length = was.length; limit = was.limit }
+  pub is : made ≡ record { tx = 0; changes = command_changes was.files cmd.user cmd.what }
 
-pub on_ok : {T E P Q : Type 0} (r : Result T E) → OnOk r P → (P → Q) → OnOk r Q
-on_ok (Ok x) p f = f p
-on_ok (Err e) p f = p
+pub ask : (was now : Catalog) (cmd : FileCmd) (made : Batch) (some : List FileChange) → refusal was.files cmd ≡ None → IsWriting cmd.what
+    → now ≡ record { files = was.files; spare = now.spare; length = was.length; limit = was.limit } → made ≡ record { tx = 0; changes = some } → some ≡ command_changes was.files cmd.user cmd.what → Asked was now cmd made
+ask was now cmd made some accepted writing same value are = record {
+  accepted = accepted;
+  writing = writing;
+  same = same;
+  is = value ∙ ap (batch 0) are;
+}
 
--- a command is done
-pub command_around : (now : Catalog) (cmd : FileCmd) (made : List FileChange) (o n : Outside) → refusal now.files cmd ≡ None → IsWriting cmd.what → made ≡ command_changes now.files cmd.user cmd.what
-    → ChangesOnly areas.Files (StandsWithout now made o) o n → ChangesOnly areas.Files (StandsAround now cmd o) o n
-command_around now cmd made o n accepted writing is t = touches_more areas.Files (StandsWithout now made o) (StandsAround now cmd o) o n wider t
-  where
-    wider : (c : List ℕ) → StandsWithout now made o c → StandsAround now cmd o c
-    wider c stands bodies held = ⊎_elim (λ old. inl old)
-        (λ new. inr (subst (λ (more : List (List ℕ)). Stands (bodies ++ more) (changed now.files cmd) c) (ap (λ (cs : List FileChange). user_record cs ∷ []) is ∙ sym (writes-one now.files cmd accepted writing)) new))
-        (stands bodies (changed now.files cmd) (command-taken now.files cmd made accepted is) held)
+module _ (was now : Catalog) (cmd : FileCmd) (made : Batch) (a : Asked was now cmd made) where
+  files-same : now.files ≡ was.files
+  files-same = ap (λ (c : Catalog). c.files) a.same
+
+  pub extent-same : extent now ≡ extent was
+  extent-same = ap extent a.same
+
+  holds-same : (bodies : List (List ℕ)) (o : Outside) → Holds was bodies o → Holds now bodies o
+  holds-same bodies o held = subst (λ (c : Catalog). Holds c bodies o) (sym a.same) (record { keeps = held.keeps; stands = held.stands })
+
+  -- its record, which is all that the command writes
+  pub asked-record : batch_record made ≡ record_of was.files cmd
+  asked-record = ap batch_record a.is
+
+  writes-made : batch_record made ∷ [] ≡ writes was.files cmd
+  writes-made = ap (λ (b : List ℕ). b ∷ []) asked-record ∙ sym (writes-one was.files cmd a.accepted a.writing)
+
+  pub asked-writes : batch_write made ∷ [] ≡ writes_in areas.Files (writes was.files cmd)
+  asked-writes = ap (writes_in areas.Files) writes-made
+
+  -- its changes are taken
+  pub asked-taken : with_changes now.files made.changes ≡ Some (changed was.files cmd)
+  asked-taken =
+      ap (λ (f : Files). with_changes f made.changes) files-same ∙ ap (λ (b : Batch). with_changes was.files b.changes) a.is
+      ∙ command-does was.files None cmd a.accepted
+
+  pub asked-kept : (later : Catalog) (o n : Outside) → ((bodies : List (List ℕ)) → Holds now bodies o → Holds later (bodies ++ batch_record made ∷ []) n)
+      → (bodies : List (List ℕ)) → Holds was bodies o → Holds later (bodies ++ writes was.files cmd) n
+  asked-kept later o n kept bodies held = subst (λ (more : List (List ℕ)). Holds later (bodies ++ more) n) writes-made (kept bodies (holds-same bodies o held))
+
+  pub asked-images : (o n : Outside) → ChangesOnly areas.Files (StandsWithout now made o) o n → ChangesOnly areas.Files (StandsAround was cmd o) o n
+  asked-images o n t = touches_more areas.Files (StandsWithout now made o) (StandsAround was cmd o) o n wider t
+    where
+      wider : (c : List ℕ) → StandsWithout now made o c → StandsAround was cmd o c
+      wider c stands bodies held = ⊎_elim
+          (λ old. inl (subst (λ (f : Files). Stands bodies f c) files-same old))
+          (λ new. inr (subst (λ (more : List (List ℕ)). Stands (bodies ++ more) (changed was.files cmd) c) writes-made new))
+          (stands bodies (changed was.files cmd) asked-taken (holds-same bodies o held))

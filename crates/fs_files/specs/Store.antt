@@ -5,27 +5,28 @@ use Rattle.dl_base.specs.Outside.{Outside}
 use Rattle.dl_base.specs.declared.area.Area.TheVariants as areas
 use Rattle.dl_base.specs.declared.fault.Full.{Full}
 use Rattle.dl_base.specs.declared.fault.Full.TheVariants as fulls
-use Rattle.dl_base.specs.declared.file.FileChange.{FileChange}
 use Rattle.dl_base.specs.declared.file.FileCmd.{FileCmd}
 use Rattle.dl_base.specs.declared.file.FileWhat.{FileWhat}
 use Rattle.dl_base.specs.declared.file.FileWhat.TheVariants as whats
-use Rattle.dl_codec.specs.declared.files.FilesRecord.{FilesRecord}
-use Rattle.dl_codec.specs.declared.files.FilesRecord.TheVariants as records
 use Rattle.dl_journal.specs.Extent.{Extent}
 use Rattle.dl_journal.specs.Open.{Keeps, IsOpen}
 use Rattle.dl_journal.specs.Records.{IsAtRest}
+use Rattle.fs_files.specs.Batch.{Batch, batch_record}
 use Rattle.meaning_areas.specs.FilesArea.{files_of, user_record, writes}
 use Rattle.meaning_files.specs.Commands.{changed, command_changes}
 use Rattle.meaning_files.specs.Files.{Files, files_code, with_changes}
 
--- the files, how many bytes their area has up to behind the closing gate, and how many it may have
+-- The files, for how many more there is room, how many bytes their area has up to behind the closing gate, and how many it may have.
 pub record Catalog : Type 0 where
   pub files : Files
+  pub spare : ℕ
   pub length : ℕ
   pub limit : ℕ
 
 abbrev pub catalog_code : Coded Catalog
-catalog_code = code_by (Files × (ℕ × ℕ)) (coded× files_code (coded× coded_ℕ coded_ℕ)) (λ c. (c.files, (c.length, c.limit))) (λ p. record { files = p.0; length = p.1.0; limit = p.1.1 }) (λ _. refl)
+catalog_code =
+    code_by (Files × (ℕ × (ℕ × ℕ))) (coded× files_code (coded× coded_ℕ (coded× coded_ℕ coded_ℕ)))
+    (λ c. (c.files, (c.spare, (c.length, c.limit)))) (λ p. record { files = p.0; spare = p.1.0; length = p.1.1.0; limit = p.1.1.1 }) (λ _. refl)
 
 -- the journal of the area Files
 abbrev pub extent : Catalog → Extent
@@ -41,10 +42,10 @@ pub record Stands (bodies : List (List ℕ)) (files : Files) (c : List ℕ) : Ty
   pub at_rest : IsAtRest bodies c
   pub stands : files_of bodies ≡ Ok files
 
--- of each list that the area holds it has that list, without a user's changes or with their record
-abbrev pub StandsWithout : Catalog → List FileChange → Outside → List ℕ → Type 0
-StandsWithout old made o c = (bodies : List (List ℕ)) (later : Files) → with_changes old.files made ≡ Some later → Holds old bodies o
-    → Stands bodies old.files c ⊎ Stands (bodies ++ user_record made ∷ []) later c
+-- of each list that the area holds it has that list, without a batch or with its record
+abbrev pub StandsWithout : Catalog → Batch → Outside → List ℕ → Type 0
+StandsWithout old made o c = (bodies : List (List ℕ)) (later : Files) → with_changes old.files made.changes ≡ Some later → Holds old bodies o
+    → Stands bodies old.files c ⊎ Stands (bodies ++ batch_record made ∷ []) later c
 
 -- the same of a command that is accepted
 abbrev pub StandsAround : Catalog → FileCmd → Outside → List ℕ → Type 0
@@ -75,7 +76,3 @@ full_with c body = fulls.Area areas.Files (min (c.length + 9 + length body) (2 ^
 
 abbrev pub IsFullWith : Catalog → List ℕ → Type 0
 IsFullWith c body = c.limit < c.length + 9 + length body
-
--- the changes of a record
-abbrev pub changes_in : FilesRecord → List FileChange
-changes_in (records.Batch tx made) = made

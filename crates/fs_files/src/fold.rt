@@ -1,9 +1,9 @@
 // What the records of the area Files stand for.
-ghost use Rattle.std.specs.Prelude.{◌≡◌, ◌≢◌, ◌<◌, ◌≤◌, ◌+◌, ◌^◌, ℕ, [], ◌∷◌, Some, None, Ok, Err, IsOk, IsSome, IfOk, length};
+ghost use Rattle.std.specs.Prelude.{◌≡◌, ◌≢◌, ◌<◌, ◌≤◌, ◌+◌, ◌^◌, ℕ, [], ◌∷◌, Some, None, Ok, Err, IsOk, IsSome, IfOk, OnErr, length};
 ghost use Rattle.std.specs.Bool.{MatchBool};
 ghost use Rattle.dl_journal.specs.Records.{size};
-ghost use Rattle.fs_files.specs.Store.{changes_in};
-ghost use Rattle.meaning_areas.specs.FilesArea.{with_record, files_step, files_of};
+ghost use Rattle.fs_files.specs.Batch.{put_count, puts};
+ghost use Rattle.meaning_areas.specs.FilesArea.{files_step, files_of};
 ghost use Rattle.meaning_files.specs.Files.{with_change, with_changes};
 
 use crate::table::FileTable;
@@ -11,11 +11,11 @@ use dl_base::{BeginFault, FileChange, FileRow, List, Memory, Text};
 use dl_codec::{FilesRecord, get_files_record};
 use std::alloc::Global;
 
-/// Makes one change, and says whether the fold takes it. Where there is room it takes no memory.
+/// Makes one change, and says whether the fold takes it. Where there is room for a file that it puts it takes no memory.
 fn change(table: &mut FileTable, change: FileChange) -> Result<bool, Memory>
     ensures made { IfOk result (λ taken. MatchBool taken (with_change table.old.files change ≡ Some table.new.files) (with_change table.old.files change ≡ None)) }
-    ensures room { 0 < table.old.spare → IsOk result }
-    ensures spare { table.old.spare ≤ table.new.spare + 1 }
+    ensures room { put_count change ≤ table.old.spare → IsOk result }
+    ensures spare { table.old.spare ≤ table.new.spare + put_count change }
 {
     match change {
         FileChange::Removed(path) => Ok(table.remove(&path)),
@@ -39,13 +39,13 @@ pub fn change_all(table: &mut FileTable, changes: List<FileChange>) -> Result<bo
     Ok(true)
 }
 
-/// Makes the changes of a record, for which there is room.
-pub fn make_batch(table: &mut FileTable, batch: FilesRecord)
-    requires room { length (changes_in batch) ≤ table.old.spare }
-    requires taken { IsSome (with_changes table.old.files (changes_in batch)) }
-    ensures { with_record table.old.files (Some batch) ≡ Some table.new.files }
+/// Makes the changes of a batch, for which there is room. It takes no memory.
+pub fn make_batch(table: &mut FileTable, changes: List<FileChange>)
+    requires room { puts changes ≤ table.old.spare }
+    requires taken { IsSome (with_changes table.old.files changes) }
+    ensures files { with_changes table.old.files changes ≡ Some table.new.files }
+    ensures spare { table.old.spare ≤ table.new.spare + puts changes }
 {
-    let FilesRecord::Batch(_, changes) = batch;
     for next in changes.into_vec() {
         let _ = change(table, next);
     }
@@ -61,11 +61,12 @@ fn take_record(alloc: Global, table: &mut FileTable, body: &[u8]) -> Result<bool
     }
 }
 
-/// The files that a list of bodies stands for, or the place of the first record that the fold refuses.
+/// The files that a list of bodies stands for, or the place of the first record that the fold refuses. No bodies take no memory.
 pub fn fold(alloc: Global, bodies: &List<Text>) -> Result<FileTable, BeginFault>
     requires { size bodies.now < 2 ^ 63 }
     ensures files { IfOk result (λ table. files_of bodies.now ≡ Ok table.files) }
-    ensures refused { (place : ℕ) → result ≡ Err (BeginFault.NotAJournal place) → (files_of bodies.now ≡ Err place) × (0 < length bodies.now) }
+    ensures refused { (place : ℕ) → result ≡ Err (BeginFault.NotAJournal place) → files_of bodies.now ≡ Err place }
+    ensures some { OnErr result (0 < length bodies.now) }
     ensures no_device { result ≢ Err BeginFault.Device }
 {
     let mut table = FileTable::empty(alloc);

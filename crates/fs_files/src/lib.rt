@@ -2,7 +2,10 @@
 #![tactic(auto)]
 
 mod fold;
+mod made;
 mod store;
 mod table;
+mod write;
 
+pub use made::FilesMade;
 pub use store::Files;

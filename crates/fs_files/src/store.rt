@@ -1,30 +1,37 @@
 // The files that are open on a bench.
-ghost use Rattle.std.specs.Prelude.{◌≡◌, ◌<◌, ◌≤◌, ◌^◌, ℕ, List, [], ◌∷◌, ◌++◌, Some, None, Ok, Err, IsSome, IsErr, IfOk, OnOk, OnErr};
+ghost use Rattle.std.specs.Prelude.{◌≡◌, ◌+◌, ◌<◌, ◌≤◌, ◌^◌, ℕ, List, [], ◌∷◌, ◌++◌, Some, None, Ok, Err, IsSome, IsErr, IfOk, OnOk, OnErr};
 ghost use Rattle.std.specs.FinMap as map;
 ghost use Rattle.std.specs.Option.{option_copied};
+ghost use Rattle.std.specs.Result.{result_err};
+ghost use Rattle.dl_areas.specs.Batch.{writes_in};
+ghost use Rattle.dl_areas.specs.Opening.{IsOpened, OpensOne};
+ghost use Rattle.dl_areas.specs.Writing.{DoesAlone, EndsAlone};
 ghost use Rattle.dl_base.specs.Outside.{ChangesOnly, FaultCounted};
 ghost use Rattle.dl_base.specs.declared.area.Area.TheVariants as areas;
 ghost use Rattle.dl_base.specs.declared.fault.Full.{Full};
-ghost use Rattle.dl_journal.specs.Open.{IsList, IsOpening, IsUnwritten, ReadsSameList};
-ghost use Rattle.fs_files.specs.Store.{Holds, IsReady, IsWriting, StandsWithout, StandsAround, record_of, full_with, IsFullWith};
-ghost use Rattle.meaning_areas.specs.FilesArea.{files_in, user_record, writes};
+ghost use Rattle.dl_journal.specs.Open.{IsList, IsOpen, IsOpening, IsUnwritten, ReadsSameList};
+ghost use Rattle.fs_files.specs.Batch.{batch_record, batch_write, puts};
+ghost use Rattle.fs_files.specs.Store.{Holds, IsReady, IsWriting, StandsWithout, StandsAround, extent, record_of, full_with, IsFullWith};
+ghost use Rattle.meaning_areas.specs.FilesArea.{files_in, files_of, files_step, writes};
 ghost use Rattle.meaning_files.specs.Commands.{needs_file, if_forbidden, not_owner, read_only, if_exists, too_many, refusal_of, refusal, new_file, put, command_changes, changed, rows_of};
 ghost use Rattle.meaning_files.specs.Files.{with_changes};
 
 use crate::fold::{fold, make_batch};
+use crate::made::{FilesMade, make, puts};
 use crate::table::FileTable;
+use crate::write::write;
+use dl_areas::steps_end_so;
 use dl_base::limits::MOST_FILES;
 use dl_base::{
-    Area, BeginFault, Bench, Copied, File, FileChange, FileCmd, FileRefusal, FileRow, FileWhat,
-    Limit, LinkNo, List, Memory, Name, Owner, Path, StepFault, Text, Why,
+    AppendFault, Area, BeginFault, Bench, Copied, File, FileChange, FileCmd, FileRefusal, FileRow,
+    FileWhat, Limit, LinkNo, List, Memory, Name, Owner, Path, StepFault, Text, Why,
 };
-use dl_codec::{FilesRecord, put_files_record};
 use dl_journal::Journal;
 use std::alloc::Global;
 use std::marker::Model;
 
-/// The files, in memory and in the area Files. Contracts see the files in the order of the paths' bytes, how many
-/// bytes the area's records and closing gate are, and how many they may be.
+/// The files, in memory and in the area Files. Contracts see the files in the order of the paths' bytes, for how many
+/// more there is room, how many bytes the area's records and closing gate are, and how many they may be.
 #[derive(Drop)]
 pub struct Files {
     alloc: Global,
@@ -41,7 +48,7 @@ impl Model for Files {
 
     ghost coded = { catalog_code };
 
-    ghost view = { λ f. record { files = f.table.files; length = f.journal.length; limit = f.journal.limit } };
+    ghost view = { λ f. record { files = f.table.files; spare = f.table.spare; length = f.journal.length; limit = f.journal.limit } };
 
     ghost invariant = { λ f. f.journal.area ≡ areas.Files };
 }
@@ -55,27 +62,26 @@ impl Files {
         requires high { limit ≤ 2 ^ 63 }
 
         // The files are those that the area's list stands for, and that each crash leaves.
-        ensures opened { IfOk result (λ f. (bodies : List (List ℕ)) × IsList bodies ((B.outside bench.old).reads areas.Files) × Holds f bodies (B.outside bench.new)) }
+        ensures opened { IfOk result (λ f. (bodies : List (List ℕ)) × IsOpened areas.Files limit (extent f) bodies (B.outside bench.old) (B.outside bench.new) × (files_of bodies ≡ Ok f.files)) }
+
+        // However it ends, the area reads as the list that it was, and a crash leaves an image of before or that list.
+        ensures opens { OpensOne areas.Files (B.outside bench.old) (B.outside bench.new) }
+
+        // The same of the one area, clause by clause.
+        ensures holds { IfOk result (λ f. (bodies : List (List ℕ)) × IsList bodies ((B.outside bench.old).reads areas.Files) × Holds f bodies (B.outside bench.new)) }
         ensures ready { IfOk result (λ f. IsReady f (B.outside bench.new)) }
         ensures limit { IfOk result (λ f. f.limit ≡ limit) }
-
-        // However it ends, the area reads as the list that it was.
         ensures same_list { ReadsSameList ((B.outside bench.old).reads areas.Files) ((B.outside bench.new).reads areas.Files) }
-
-        // A crash at any moment leaves what it might have left before, or the list that the area reads.
         ensures images { ChangesOnly areas.Files (IsOpening areas.Files (B.outside bench.old)) (B.outside bench.old) (B.outside bench.new) }
 
         ensures no_files { (place : ℕ) → result ≡ Err (BeginFault.NotAJournal place) → (told : List ℕ) → (B.outside bench.old).reads areas.Files ≡ Some told → files_in told ≡ Err place }
         ensures untouched { (place : ℕ) → result ≡ Err (BeginFault.NotAJournal place) → IsUnwritten areas.Files (B.outside bench.old) (B.outside bench.new) }
+        ensures memory { result ≡ Err BeginFault.Memory → IsUnwritten areas.Files (B.outside bench.old) (B.outside bench.new) }
         ensures device { result ≡ Err BeginFault.Device → FaultCounted (B.outside bench.old) (B.outside bench.new) }
     {
         let (journal, bodies) = Journal::begin(alloc, bench, Area::Files, limit)?;
         let table = fold(alloc, &bodies)?;
-        Ok(Files {
-            alloc,
-            journal,
-            table,
-        })
+        Ok(opened(alloc, journal, table))
     }
 
     /// The file at a path. It takes no memory.
@@ -223,9 +229,13 @@ impl Files {
         // A crash at any moment of the call leaves the list with the record or without.
         ensures images { ChangesOnly areas.Files (StandsAround self.old cmd (B.outside bench.old)) (B.outside bench.old) (B.outside bench.new) }
 
+        // The same of five areas: it writes that one record, and takes its memory before it writes.
+        ensures ends { EndsAlone (extent self.old) (extent self.new) (writes_in areas.Files (writes self.old.files cmd)) (result_err result) (B.outside bench.old) (B.outside bench.new) }
+
         ensures limit { self.new.limit ≡ self.old.limit }
 
-        ensures err { OnErr result (self.new ≡ self.old) }
+        // After an error there may be room for more files.
+        ensures err { OnErr result (self.new ≡ record self.old { spare = self.new.spare }) }
         ensures memory { result ≡ Err StepFault.Memory → bench.new ≡ bench.old }
 
         // It is full only where the record would pass the limit. Then nothing is written.
@@ -233,8 +243,57 @@ impl Files {
         ensures unwritten { IsFullWith self.old (record_of self.old.files cmd) → (bench.new ≡ bench.old) × IsErr result }
         ensures device { result ≡ Err StepFault.Device → FaultCounted (B.outside bench.old) (B.outside bench.new) }
     {
-        let made = self.changes(cmd)?;
-        self.write(bench, made)
+        steps_end_so::<B>();
+        let changes = self.changes(cmd)?;
+        let made = self.made(0, changes)?;
+        match self.batch(bench, made) {
+            Ok(()) => Ok(()),
+            Err(fault) => Err(StepFault::from(fault)),
+        }
+    }
+
+    /// A batch of changes, of this transaction or, with 0, of a user's command. It makes room for the files that they put. The error
+    /// is want of memory, and changes nothing but that there may be more room; it is also answered where no record can have the
+    /// changes, as 2^32 of them.
+    pub fn made(&mut self, tx: u64, changes: List<FileChange>) -> Result<FilesMade, Memory>
+        ensures value { IfOk result (λ made. made ≡ record { tx = tx; changes = changes }) }
+        ensures same { self.new ≡ record self.old { spare = self.new.spare } }
+        ensures room { OnOk result (puts changes ≤ self.new.spare) }
+        ensures spare { self.old.spare ≤ self.new.spare }
+    {
+        self.table.make_room(puts(&changes))?;
+        make(self.alloc, tx, changes)
+    }
+
+    /// Writes a batch, and then makes its changes in memory. There has to be room for the files that it puts, and what it removes or
+    /// gives new owners has to be there. The errors are `Full(Area)` where the area has no room for the record, and `Device`, after
+    /// which the area is to be opened again. It takes no memory, and costs a look-up a change, and the record's bytes.
+    pub fn batch<B: Bench>(&mut self, bench: &mut B, made: FilesMade) -> Result<(), AppendFault>
+        requires ready { IsOpen (extent self.old) (B.outside bench.old) }
+        requires room { puts made.changes ≤ self.old.spare }
+        requires taken { IsSome (with_changes self.old.files made.changes) }
+        ensures files { OnOk result (with_changes self.old.files made.changes ≡ Some self.new.files) }
+        ensures spare { OnOk result (self.old.spare ≤ self.new.spare + puts made.changes) }
+        ensures limit { self.new.limit ≡ self.old.limit }
+        ensures err { OnErr result (self.new ≡ self.old) }
+        ensures does { DoesAlone (extent self.old) (extent self.new) (batch_write made ∷ []) (result_err result) (B.outside bench.old) (B.outside bench.new) }
+
+        // The fold makes of its record what the changes make of the files.
+        ensures folds { files_step self.old.files (batch_record made) ≡ with_changes self.old.files made.changes }
+
+        // The same of the one area, whatever the others have.
+        ensures kept { OnOk result ((bodies : List (List ℕ)) → Holds self.old bodies (B.outside bench.old) → Holds self.new (bodies ++ batch_record made ∷ []) (B.outside bench.new)) }
+        ensures images { ChangesOnly areas.Files (StandsWithout self.old made (B.outside bench.old)) (B.outside bench.old) (B.outside bench.new) }
+        ensures unwritten { IsFullWith self.old (batch_record made) → bench.new ≡ bench.old }
+    {
+        let (changes, body) = made.parts();
+        match write(&mut self.journal, bench, body.as_slice()) {
+            Ok(()) => {
+                make_batch(&mut self.table, changes);
+                Ok(())
+            }
+            Err(fault) => Err(fault),
+        }
     }
 
     // The changes of a command.
@@ -297,30 +356,18 @@ impl Files {
             None => Ok(List::empty(self.alloc)),
         }
     }
+}
 
-    // Writes a user's changes, and then makes them in memory.
-    fn write<B: Bench>(&mut self, bench: &mut B, made: List<FileChange>) -> Result<(), StepFault>
-        requires ready { IsReady self.old (B.outside bench.old) }
-        requires taken { IsSome (with_changes self.old.files made) }
-        ensures files { OnOk result (with_changes self.old.files made ≡ Some self.new.files) }
-        ensures kept { OnOk result ((bodies : List (List ℕ)) → Holds self.old bodies (B.outside bench.old) → Holds self.new (bodies ++ user_record made ∷ []) (B.outside bench.new)) }
-        ensures ready { OnOk result (IsReady self.new (B.outside bench.new)) }
-        ensures images { ChangesOnly areas.Files (StandsWithout self.old made (B.outside bench.old)) (B.outside bench.old) (B.outside bench.new) }
-        ensures limit { self.new.limit ≡ self.old.limit }
-        ensures err { OnErr result (self.new ≡ self.old) }
-        ensures memory { result ≡ Err StepFault.Memory → bench.new ≡ bench.old }
-        ensures full { (full : Full) → result ≡ Err (StepFault.Full full) → (full ≡ full_with self.old (user_record made)) × IsFullWith self.old (user_record made) }
-        ensures unwritten { IsFullWith self.old (user_record made) → (bench.new ≡ bench.old) × IsErr result }
-        ensures device { result ≡ Err StepFault.Device → FaultCounted (B.outside bench.old) (B.outside bench.new) }
-    {
-        let count = made.len();
-        let batch = FilesRecord::Batch(0, made);
-        let mut body = List::empty(self.alloc);
-        put_files_record(&mut body, &batch)?;
-        self.table.make_room(count)?;
-        self.journal.append(bench, body.as_slice())?;
-        make_batch(&mut self.table, batch);
-        Ok(())
+// These files, and their journal.
+fn opened(alloc: Global, journal: Journal, table: FileTable) -> Files
+    requires { journal.area ≡ areas.Files }
+    ensures files { result.files ≡ table.files }
+    ensures extent { extent result ≡ journal }
+{
+    Files {
+        alloc,
+        journal,
+        table,
     }
 }
 

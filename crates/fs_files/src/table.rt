@@ -68,10 +68,11 @@ impl FileTable {
         self.entries.len()
     }
 
-    /// Makes room for so many more files.
+    /// Makes room for so many more files; want of memory leaves what room there was.
     pub fn make_room(&mut self, count: usize) -> Result<(), Memory>
         ensures files { self.new.files ≡ self.old.files }
         ensures room { OnOk result (count ≤ self.new.spare) }
+        ensures spare { self.old.spare ≤ self.new.spare }
     {
         self.entries.reserve(count)?;
         Ok(())

@@ -15,7 +15,7 @@ returns-in-Ok-run_lines-clause-whole g c _ turns runs bodies files entry =
     let o = g.B.Bench.outside c.args.bench in
     let m = g.B.Bench.outside c.begin.new.bench in
     let n = g.B.Bench.outside c.run_lines.new.bench in
-    let opened = c.in-Ok.ensures.opened in
+    let opened = c.in-Ok.ensures.holds in
     let begun = subst (λ (s : Sessions). AreTurns c.args.given.now s (lines c.args.script.now) turns) (sym c.new-sessions.ensures) runs in
     whole_run o bodies files entry turns c.args.given.now.limit c.in-Ok.store c.run_lines.new.store m n (g.met.B.Bench.lawful c.run_lines.new.bench) c.begin.ensures.images.told
     (store_is o bodies files entry opened.0 opened.1 c.in-Ok.store m opened.2) c.in-Ok.ensures.limit
@@ -25,7 +25,7 @@ pub returns-in-Ok-run_lines-clause-history : goal.returns-in-Ok-run_lines-clause
 returns-in-Ok-run_lines-clause-history g c turns runs bodies files entry all =
     let o = g.B.Bench.outside c.args.bench in
     let m = g.B.Bench.outside c.begin.new.bench in
-    let opened = c.in-Ok.ensures.opened in
+    let opened = c.in-Ok.ensures.holds in
     let begun = subst (λ (s : Sessions). AreTurns c.args.given.now s (lines c.args.script.now) turns) (sym c.new-sessions.ensures) runs in
     run_then o bodies files entry all turns c.in-Ok.store m (g.B.Bench.outside c.run_lines.new.bench) c.begin.ensures.images (store_is o bodies files entry opened.0 opened.1 c.in-Ok.store m opened.2)
     (c.run_lines.ensures.images turns begun bodies (holds_entry o bodies files entry opened.0 opened.1 c.in-Ok.store m opened.2))
@@ -34,7 +34,7 @@ pub returns-in-Ok-clause-history : goal.returns-in-Ok-clause-history
 returns-in-Ok-clause-history g c turns runs bodies files entry all =
     let o = g.B.Bench.outside c.args.bench in
     let m = g.B.Bench.outside c.begin.new.bench in
-    let opened = c.in-Ok.ensures.opened in
+    let opened = c.in-Ok.ensures.holds in
     let begun = subst (λ (s : Sessions). AreTurns c.args.given.now s (lines c.args.script.now) turns) (sym c.new-sessions.ensures) runs in
     run_then o bodies files entry all turns c.in-Ok.store m (g.B.Bench.outside c.run_lines.new.bench) c.begin.ensures.images (store_is o bodies files entry opened.0 opened.1 c.in-Ok.store m opened.2)
     (c.run_lines.ensures.images turns begun bodies (holds_entry o bodies files entry opened.0 opened.1 c.in-Ok.store m opened.2))
@@ -43,7 +43,7 @@ pub returns-in-Ok-run_lines-clause-left : goal.returns-in-Ok-run_lines-clause-le
 returns-in-Ok-run_lines-clause-left g c turns runs bodies files entry =
     let o = g.B.Bench.outside c.args.bench in
     let m = g.B.Bench.outside c.begin.new.bench in
-    let opened = c.in-Ok.ensures.opened in
+    let opened = c.in-Ok.ensures.holds in
     let begun = subst (λ (s : Sessions). AreTurns c.args.given.now s (lines c.args.script.now) turns) (sym c.new-sessions.ensures) runs in
     left_lines turns o bodies files entry c.in-Ok.store m (g.B.Bench.outside c.run_lines.new.bench) (g.met.B.Bench.lawful c.begin.new.bench) (g.met.B.Bench.lawful c.run_lines.new.bench)
     c.begin.ensures.images.told (store_is o bodies files entry opened.0 opened.1 c.in-Ok.store m opened.2)
@@ -54,7 +54,7 @@ pub returns-in-Ok-clause-left : goal.returns-in-Ok-clause-left
 returns-in-Ok-clause-left g c turns runs bodies files entry =
     let o = g.B.Bench.outside c.args.bench in
     let m = g.B.Bench.outside c.begin.new.bench in
-    let opened = c.in-Ok.ensures.opened in
+    let opened = c.in-Ok.ensures.holds in
     let begun = subst (λ (s : Sessions). AreTurns c.args.given.now s (lines c.args.script.now) turns) (sym c.new-sessions.ensures) runs in
     left_lines turns o bodies files entry c.in-Ok.store m (g.B.Bench.outside c.run_lines.new.bench) (g.met.B.Bench.lawful c.begin.new.bench) (g.met.B.Bench.lawful c.run_lines.new.bench)
     c.begin.ensures.images.told (store_is o bodies files entry opened.0 opened.1 c.in-Ok.store m opened.2)
@@ -69,7 +69,7 @@ pub returns-in-Ok-clause-full : goal.returns-in-Ok-clause-full
 returns-in-Ok-clause-full g c full is turns runs bodies files entry =
     let o = g.B.Bench.outside c.args.bench in
     let m = g.B.Bench.outside c.begin.new.bench in
-    let opened = c.in-Ok.ensures.opened in
+    let opened = c.in-Ok.ensures.holds in
     let begun = subst (λ (s : Sessions). AreTurns c.args.given.now s (lines c.args.script.now) turns) (sym c.new-sessions.ensures) runs in
     let at = c.in-Err-run_lines.ensures.full full (ap Err (full_fault c.in-Err-run_lines.fault full (sym c.step_end.ensures ∙ is))) turns begun bodies
     (holds_entry o bodies files entry opened.0 opened.1 c.in-Ok.store m opened.2) in

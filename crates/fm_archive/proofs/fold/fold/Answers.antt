@@ -1,4 +1,4 @@
-use Rattle.std.proofs.Common.{◌≡◌, ◌+◌, ℕ, Bool, true, false, List, length, drop, arith, ap, sym, ◌∙◌, Ok, Err, rules}
+use Rattle.std.proofs.Common.{◌≡◌, ◌+◌, ℕ, Bool, true, false, List, drop, arith, ap, sym, ◌∙◌, Ok, Err, rules}
 use Rattle.std.specs.Bool.{then_some}
 use Rattle.dl_journal.specs.Records.{size}
 use Rattle.meaning_areas.specs.Areas.{copies_body, copies_of}
@@ -14,10 +14,8 @@ returns-then-not-branch-clause-refused c place is =
     let no : c.in_ok-take_record.field-0 ≡ false = search rules in
     let none = c.in_ok-take_record.ensures ∙ ap (λ (b : Bool). then_some b c.take_record.new.table.copies) no in
     let bad = refused items i c.loop-body.place c.body-item.result c.body-item.result c.loop-body-test.true c.body-item.is c.loop-body.table.copies c.loop-body.invariant.copies
-    (ap (λ (b : List ℕ). copies_body c.loop-body.table.copies b) (sym c.bytes.ensures) ∙ none) in (
-      ap (λ (xs : List (List ℕ)). copies_of xs) (sym c.as_slice-body-items.ensures) ∙ bad ∙ ap (λ (at : ℕ). Err at) same,
-      omega (arith, c.loop-body-test.true, ap length c.as_slice-body-items.ensures),
-    )
+    (ap (λ (b : List ℕ). copies_body c.loop-body.table.copies b) (sym c.bytes.ensures) ∙ none) in
+    ap (λ (xs : List (List ℕ)). copies_of xs) (sym c.as_slice-body-items.ensures) ∙ bad ∙ ap (λ (at : ℕ). Err at) same
 
 pub overflow_add-place-in-loop-body : goal.overflow_add-place-in-loop-body
 overflow_add-place-in-loop-body c =

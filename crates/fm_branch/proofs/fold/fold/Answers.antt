@@ -1,4 +1,4 @@
-use Rattle.std.proofs.Common.{◌≡◌, ◌+◌, ◌++◌, ℕ, Bool, true, false, List, length, drop, arith, ap, sym, ◌∙◌, Ok, Err, rules}
+use Rattle.std.proofs.Common.{◌≡◌, ◌+◌, ◌++◌, ℕ, Bool, true, false, List, drop, arith, ap, sym, ◌∙◌, Ok, Err, rules}
 use Rattle.std.specs.Bool.{then_some}
 use Rattle.dl_codec.specs.Layout.{whole}
 use Rattle.dl_codec.specs.Links.{links_record}
@@ -17,10 +17,8 @@ returns-then-not-branch-clause-refused c place is =
     let no : c.in_ok-take_record.field-0 ≡ false = search rules in
     let none = c.in_ok-take_record.ensures.links ∙ ap (λ (b : Bool). then_some b c.take_record.new.history.links) no in
     let bad = refused items i c.loop-body.place c.body-item.result c.body-item.result c.loop-body-test.true c.body-item.is c.loop-body.history.links c.loop-body.invariant.links
-    (ap (λ (b : List ℕ). links_body c.loop-body.history.links b) (sym c.bytes.ensures) ∙ none) in (
-      ap (λ (xs : List (List ℕ)). branches_of xs) (sym c.as_slice-body-items.ensures) ∙ bad ∙ ap (λ (at : ℕ). Err at) same,
-      omega (arith, c.loop-body-test.true, ap length c.as_slice-body-items.ensures),
-    )
+    (ap (λ (b : List ℕ). links_body c.loop-body.history.links b) (sym c.bytes.ensures) ∙ none) in
+    ap (λ (xs : List (List ℕ)). branches_of xs) (sym c.as_slice-body-items.ensures) ∙ bad ∙ ap (λ (at : ℕ). Err at) same
 
 pub overflow_add-place-in-loop-body : goal.overflow_add-place-in-loop-body
 overflow_add-place-in-loop-body c =

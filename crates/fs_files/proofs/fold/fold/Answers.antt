@@ -1,4 +1,4 @@
-use Rattle.std.proofs.Common.{◌≡◌, ◌+◌, ℕ, List, length, drop, arith, ap, sym, ◌∙◌, Ok, Err}
+use Rattle.std.proofs.Common.{◌≡◌, ◌+◌, ℕ, List, drop, arith, ap, sym, ◌∙◌, Ok, Err}
 use Rattle.dl_journal.specs.Records.{size}
 use Rattle.meaning_areas.specs.FilesArea.{files_step, files_of}
 use Rattle.meaning_areas.specs.Folds.{folded}
@@ -12,10 +12,8 @@ returns-then-not-branch-clause-refused c place is =
     let same : c.loop-body.place ≡ place = cc in
     let none = on_no _ _ _ c.if-not-branch.true c.in_ok-take_record.ensures in
     let bad = refused items i c.loop-body.place c.body-item.result c.body-item.result c.loop-body-test.true c.body-item.is c.loop-body.table.files c.loop-body.invariant.files
-    (ap (λ (b : List ℕ). files_step c.loop-body.table.files b) (sym c.bytes.ensures) ∙ none) in (
-      ap (λ (xs : List (List ℕ)). files_of xs) (sym c.as_slice-body-items.ensures) ∙ bad ∙ ap (λ (at : ℕ). Err at) same,
-      omega (arith, c.loop-body-test.true, ap length c.as_slice-body-items.ensures),
-    )
+    (ap (λ (b : List ℕ). files_step c.loop-body.table.files b) (sym c.bytes.ensures) ∙ none) in
+    ap (λ (xs : List (List ℕ)). files_of xs) (sym c.as_slice-body-items.ensures) ∙ bad ∙ ap (λ (at : ℕ). Err at) same
 
 pub overflow_add-place-in-loop-body : goal.overflow_add-place-in-loop-body
 overflow_add-place-in-loop-body c =

@@ -1,4 +1,4 @@
-use Rattle.std.proofs.Common.{◌≡◌, sym, ◌∙◌}
+use Rattle.std.proofs.Common.{sym, ◌∙◌}
 use Rattle.fs_files.proofs.Listing.{listed-turn, none-listed}
 use Rattle.fs_files.proofs.table.sorted.Goals as goal
 

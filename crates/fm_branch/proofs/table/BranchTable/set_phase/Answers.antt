@@ -14,4 +14,4 @@ pub invariant_of-self : goal.invariant_of-self
 invariant_of-self c =
     let old : Table = maps.from_entries c.self.inside.entries.entries in
     let is = phase_of_entries c.self.inside.entries.entries c.renew.new.entries.entries c.args.tx c.args.phase c.renew.ensures.others c.renew.ensures.entry in
-    λ q. named-phase old c.args.tx c.args.phase c.self.inside.prepared.items c.self.invariant q ∙ ap (λ (t : Table). is_some (maps.get t q)) (sym is)
+    (λ q. named-phase old c.args.tx c.args.phase c.self.inside.prepared.items c.self.invariant.0 q ∙ ap (λ (t : Table). is_some (maps.get t q)) (sym is), c.self.invariant.1)

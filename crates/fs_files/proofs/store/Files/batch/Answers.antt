@@ -1,0 +1,35 @@
+use Rattle.std.proofs.Common.{◌≡◌, List, length, ap, sym, ◌∙◌}
+use Rattle.dl_base.specs.declared.file.FileChange.{FileChange}
+use Rattle.fs_files.specs.Batch.{batch_record}
+use Rattle.fs_files.proofs.Writing.{holds_after, step-batch, writes_record}
+use Rattle.meaning_files.specs.Files.{with_changes}
+use Rattle.fs_files.proofs.store.Files.batch.Goals as goal
+
+pub returns-in-Ok-clause-folds : goal.returns-in-Ok-clause-folds
+returns-in-Ok-clause-folds g c = step-batch c.args.self.now.files c.args.made c.parts-changes.ensures.fits
+
+pub returns-in-Err-clause-folds : goal.returns-in-Err-clause-folds
+returns-in-Err-clause-folds g c = step-batch c.args.self.now.files c.args.made c.parts-changes.ensures.fits
+
+pub returns-in-Ok-clause-images : goal.returns-in-Ok-clause-images
+returns-in-Ok-clause-images g c =
+    let spelled : c.as_slice.result.now ≡ batch_record c.args.made = c.as_slice.ensures ∙ c.parts-changes.ensures.body in
+    writes_record c.args.self.now c.self.inside.journal c.self.inside.table.files c.self.inside.table.spare c.args.made c.as_slice.result.now
+    (g.B.Bench.outside c.args.bench.now) (g.B.Bench.outside c.write.new.bench)
+    c.self.view_is c.self.invariant c.parts-changes.ensures.fits spelled c.write.ensures.images
+
+pub returns-in-Err-clause-images : goal.returns-in-Err-clause-images
+returns-in-Err-clause-images g c =
+    let spelled : c.as_slice.result.now ≡ batch_record c.args.made = c.as_slice.ensures ∙ c.parts-changes.ensures.body in
+    writes_record c.args.self.now c.self.inside.journal c.self.inside.table.files c.self.inside.table.spare c.args.made c.as_slice.result.now
+    (g.B.Bench.outside c.args.bench.now) (g.B.Bench.outside c.write.new.bench)
+    c.self.view_is c.self.invariant c.parts-changes.ensures.fits spelled c.write.ensures.images
+
+pub returns-in-Ok-clause-kept : goal.returns-in-Ok-clause-kept
+returns-in-Ok-clause-kept g c =
+    let spelled : c.as_slice.result.now ≡ batch_record c.args.made = c.as_slice.ensures ∙ c.parts-changes.ensures.body in
+    holds_after c.args.self.now c.self.inside.journal c.write.new.journal c.self.inside.table.files c.make_batch.new.table.files c.self.inside.table.spare c.make_batch.new.table.spare
+    c.args.made c.as_slice.result.now (length c.as_slice.result.now)
+    (g.B.Bench.outside c.args.bench.now) (g.B.Bench.outside c.write.new.bench)
+    c.self.view_is c.self.invariant c.in-Ok.ensures.ok c.parts-changes.ensures.fits spelled
+    c.in-Ok.ensures.kept (ap (λ (cs : List FileChange). with_changes c.self.inside.table.files cs) (sym c.parts-changes.ensures.changes) ∙ c.make_batch.ensures.files)
