@@ -1,0 +1,4 @@
+pub mod Building
+pub mod Finding
+pub mod Folding
+pub mod Images

@@ -1,0 +1,38 @@
+use Rattle.std.proofs.Common.{◌≡◌, ◌+◌, ℕ, Bool, true, false, List, drop, arith, ap, sym, ◌∙◌, Ok, Err, rules}
+use Rattle.std.specs.Bool.{then_some}
+use Rattle.dl_journal.specs.Records.{size}
+use Rattle.meaning_areas.specs.Areas.{backups_body, backups_of}
+use Rattle.meaning_areas.specs.Folds.{folded}
+use Rattle.bk_backup.proofs.Folding.{refused, accepted, place_next, place_below}
+use Rattle.bk_backup.proofs.fold.fold.Goals as goal
+
+pub returns-then-not-branch-clause-refused : goal.returns-then-not-branch-clause-refused
+returns-then-not-branch-clause-refused c place is =
+    let items = c.as_slice-body-items.result.now in
+    let i = c.loop-body.body-index in
+    let same : c.loop-body.place ≡ place = cc in
+    let no : c.in_ok-take_record.field-0 ≡ false = search rules in
+    let none = c.in_ok-take_record.ensures ∙ ap (λ (b : Bool). then_some b c.take_record.new.backups) no in
+    let bad = refused items i c.loop-body.place c.body-item.result c.body-item.result c.loop-body-test.true c.body-item.is c.loop-body.backups c.loop-body.invariant.backups
+    (ap (λ (b : List ℕ). backups_body c.loop-body.backups b) (sym c.bytes.ensures) ∙ none) in
+    ap (λ (xs : List (List ℕ)). backups_of xs) (sym c.as_slice-body-items.ensures) ∙ bad ∙ ap (λ (at : ℕ). Err at) same
+
+pub overflow_add-place-in-loop-body : goal.overflow_add-place-in-loop-body
+overflow_add-place-in-loop-body c =
+    let below = place_below c.as_slice-body-items.result.now c.loop-body.body-index c.loop-body.place c.body-item.result c.body-item.result c.loop-body-test.true c.body-item.is c.loop-body.invariant.place in
+    omega (arith, below, c.len.ensures, ap size c.as_slice-body-items.ensures, c.requires)
+
+pub loop-body-preserved : goal.loop-body-preserved
+loop-body-preserved c =
+    let items = c.as_slice-body-items.result.now in
+    let i = c.loop-body.body-index in
+    let later = c.take_record.new.backups in
+    let yes : c.in_ok-take_record.field-0 ≡ true = search rules in
+    let some = c.in_ok-take_record.ensures ∙ ap (λ (b : Bool). then_some b c.take_record.new.backups) yes in
+    record {
+      backups = ap (λ (n : ℕ). folded backups_body (c.loop-body.place + (9 + n)) (Ok later) (drop (i + 1) items)) c.len.ensures
+          ∙ accepted items i c.loop-body.place c.body-item.result c.body-item.result c.loop-body-test.true c.body-item.is c.loop-body.backups c.loop-body.invariant.backups
+          later (ap (λ (b : List ℕ). backups_body c.loop-body.backups b) (sym c.bytes.ensures) ∙ some);
+      place = ap (λ (n : ℕ). c.loop-body.place + (9 + n)) c.len.ensures
+          ∙ place_next items i c.loop-body.place c.body-item.result c.body-item.result c.loop-body-test.true c.body-item.is c.loop-body.invariant.place;
+    }

@@ -1,0 +1,9 @@
+pub mod Settled
+pub mod Committed
+pub mod HaveFiles
+pub mod Archived
+pub mod Putting
+pub mod Turns
+pub mod OfPast
+pub mod Values
+pub mod Decided

@@ -1,0 +1,4 @@
+pub mod Effects
+pub mod Overlay
+pub mod Copies
+pub mod Numbers

@@ -1,0 +1,11 @@
+pub mod Deciding
+pub mod Fits
+pub mod Folded
+pub mod Holding
+pub mod LinkLists
+pub mod Maps
+pub mod Numbers
+pub mod Owning
+pub mod Passing
+pub mod Tests
+pub mod Walks

@@ -1,0 +1,11 @@
+pub mod BatchLaws
+pub mod CopyLaws
+pub mod Keys
+pub mod Listing
+pub mod NumberLaws
+pub mod ReadLaws
+pub mod Results
+pub mod Settled
+pub mod SiteLaws
+pub mod SortedSites
+pub mod Taking

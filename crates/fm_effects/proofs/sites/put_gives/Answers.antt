@@ -1,0 +1,13 @@
+use Rattle.std.specs.BTreeMap.{get}
+use Rattle.std.specs.Cmp.Lexicographic.{slice_cmp}
+use Rattle.std.specs.Ordering.{nat_cmp}
+use Rattle.fm_effects.proofs.SiteLaws.{give-turn}
+use Rattle.fm_effects.specs.Sites.{given_of}
+use Rattle.meaning_settling.specs.Settling.{on}
+use Rattle.fm_effects.proofs.sites.put_gives.Goals as goal
+
+pub loop-row-preserved : goal.loop-row-preserved
+loop-row-preserved c q =
+    give-turn c.as_slice-row-items.result.now c.args.gives.now c.loop-row.row-index c.row-item.result c.as_slice-row-items.ensures c.loop-row-test.true c.row-item.is q
+    (get (slice_cmp nat_cmp) c.loop-row.sites q) (get (slice_cmp nat_cmp) c.put_give.new.sites q) (given_of (on c.args.gives.now q) (get (slice_cmp nat_cmp) c.args.sites.now q))
+    (c.in_ok-put_give.ensures q) (c.loop-row.invariant q)

@@ -1,0 +1,9 @@
+pub mod Behind
+pub mod Entries
+pub mod Examples
+pub mod Forgetting
+pub mod Guarding
+pub mod Moving
+pub mod Resolving
+pub mod Searching
+pub mod Steps

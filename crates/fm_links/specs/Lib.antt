@@ -1,0 +1,4 @@
+pub mod Claims
+pub mod Searching
+pub mod Guarding
+pub mod Stepping

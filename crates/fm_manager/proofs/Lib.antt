@@ -1,0 +1,4 @@
+pub mod Managing
+pub mod Folding
+pub mod Storing
+pub mod Parts

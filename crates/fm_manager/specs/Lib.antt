@@ -1,0 +1,2 @@
+pub mod Managed
+pub mod Pieces

@@ -1,0 +1,15 @@
+pub mod Plain
+pub mod Walks
+pub mod Copying
+pub mod Settling
+pub mod Finishing
+pub mod Entries
+pub mod Shutting
+pub mod Dropping
+pub mod Counting
+pub mod Present
+pub mod Completing
+pub mod Numbering
+pub mod Opening
+pub mod Again
+pub mod Stepping
