@@ -49,7 +49,8 @@ impl Backups {
     /// Opens the area Backups. The limit is the most bytes that its records and closing gate may be.
     /// `NotAJournal` has the place, from 0, of the gate of the first record that passes the area's end; where there is none, that of
     /// the first record that is none, or that the fold refuses: a backup whose number is not the next one, that has two tables of
-    /// one name, or a table whose row numbers do not rise or are not below its next one. Then nothing was written.
+    /// one name, or a table whose row numbers do not rise or are not below its next one. Nothing was written then, nor after
+    /// `Memory`.
     pub fn begin<B: Bench>(alloc: Global, bench: &mut B, limit: u64) -> Result<Backups, BeginFault>
         requires low { 1 ≤ limit }
         requires high { limit ≤ 2 ^ 63 }
@@ -75,6 +76,13 @@ impl Backups {
         ensures { result ≡ length self.now.backups }
     {
         self.backups.len() as u64
+    }
+
+    /// How many bytes the records and the closing gate of its area are. It takes no memory.
+    pub fn length(&self) -> u64
+        ensures { result ≡ self.now.length }
+    {
+        self.journal.length()
     }
 
     /// The number of the commit after which a backup, from 1, was made; None exactly where there is no such backup. It takes no

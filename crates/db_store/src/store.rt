@@ -169,6 +169,13 @@ impl Store {
         self.log.commit_at(commit)
     }
 
+    /// How many bytes the records and the closing gate of its area are. It takes no memory.
+    pub fn length(&self) -> u64
+        ensures { result ≡ self.now.length }
+    {
+        self.journal.length()
+    }
+
     /// The number of the last opening; 0 where there was none.
     pub fn opening(&self) -> u32
         ensures { result ≡ self.now.rows.opening }
@@ -181,6 +188,18 @@ impl Store {
         ensures { result ≡ is_some (commit_of tx self.now.rows.commits) }
     {
         self.log.has(tx)
+    }
+
+    /// The number that the next `draw` gives, or why it gives none. It takes no memory, and draws nothing.
+    #[tactic(auto, using(crate::proofs::Numbers::draw_fits, crate::proofs::Numbers::draw_ends))]
+    pub fn coming(&self) -> Result<u64, AppendFault>
+        ensures value { IfOk result (λ tx. tx ≡ drawn_next self.now) }
+        ensures full { result_err result ≡ option_map (λ f. appends.Full f) (draw_full (self.now.drawn + 1)) }
+    {
+        if self.drawn >= MOST_NUMBERS {
+            return Err(AppendFault::Full(Full::Transactions(self.drawn)));
+        }
+        Ok(u64::from(self.opening) * 4_294_967_296 + u64::from(self.drawn) + 1)
     }
 
     /// The next transaction number: the opening's 32 bits, and behind them how many were drawn in it. The only error is that an

@@ -102,6 +102,13 @@ impl Archive {
         self.table.get(link)
     }
 
+    /// How many bytes the records and the closing gate of its area are. It takes no memory.
+    pub fn length(&self) -> u64
+        ensures { result ≡ self.now.length }
+    {
+        self.journal.length()
+    }
+
     /// Makes room for so many more copies; want of memory leaves what room there was.
     pub fn make_room(&mut self, copies: u64) -> Result<(), Memory>
         ensures same { self.new ≡ record self.old { spare = self.new.spare } }

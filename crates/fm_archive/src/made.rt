@@ -33,6 +33,13 @@ impl Model for CopyMade {
 }
 
 impl CopyMade {
+    /// The link of which it is a copy. It takes no memory.
+    pub fn link(&self) -> LinkNo
+        ensures { result ≡ self.now.link }
+    {
+        self.copy.link
+    }
+
     /// The copy, and the body of its record. It takes no memory.
     pub(crate) fn parts(self) -> (FileCopy, List<u8>)
         ensures copy { result.0 ≡ self }

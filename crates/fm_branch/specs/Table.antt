@@ -1,12 +1,12 @@
 -- Branches by the numbers of their transactions.
-use Rattle.std.specs.Prelude.{◌≡◌, ℕ, Bool, true, false, not, ◌&&◌, ◌||◌, List, [], ◌∷◌, ◌++◌, map, filter, Option, Some, None, is_some, refl}
+use Rattle.std.specs.Prelude.{◌≡◌, ℕ, Bool, true, false, not, ◌&&◌, List, [], ◌∷◌, ◌++◌, map, filter, Option, Some, None, is_some, refl}
 use Rattle.std.specs.Coded.{Coded, code_by, coded×, coded_ℕ, coded_list}
 use Rattle.std.specs.FinMap as maps
 use Rattle.std.specs.Ordering.{nat_cmp}
 use Rattle.dl_codec.specs.declared.links.BranchPhase.{BranchPhase}
-use Rattle.dl_codec.specs.declared.links.BranchPhase.TheVariants.{Done, Aborted}
 use Rattle.meaning_areas.specs.Branches.{Branch, branch, is_phase}
 use Rattle.meaning_areas.specs.Commits.{has_number}
+use Rattle.meaning_areas.specs.Stands.{is_open}
 use Rattle.fm_branch.specs.Codes.{table_code}
 
 abbrev pub Table : Type 0
@@ -35,7 +35,7 @@ with_last n tx b = record { table = maps.insert n.table tx b; prepared = n.prepa
 
 -- a branch is in doubt until it is done or aborted
 abbrev pub is_in_doubt : Branch → Bool
-is_in_doubt b = not (is_phase b.phase Done || is_phase b.phase Aborted)
+is_in_doubt b = is_open b.phase
 
 -- the transactions of those in doubt, in the order of their numbers
 abbrev pub doubtful : List (ℕ × Branch) → List ℕ

@@ -12,6 +12,7 @@ ghost use Rattle.dl_base.specs.Outside.{FaultCounted};
 ghost use Rattle.dl_base.specs.declared.area.Area.TheVariants as areas;
 ghost use Rattle.dl_codec.specs.declared.links.LinksRecord.TheVariants as records;
 ghost use Rattle.dl_journal.specs.Open.{IsOpen, IsUnwritten};
+ghost use Rattle.fm_branch.specs.Held.{row_on};
 ghost use Rattle.fm_branch.specs.Linked.{IsTaken, extent, links_in, opening_write, prepared_in, reopened, write_for};
 ghost use Rattle.fm_branch.specs.Shown.{shown};
 ghost use Rattle.fm_branch.specs.Table.{AreNamed, in_doubt};
@@ -21,11 +22,12 @@ ghost use Rattle.meaning_settling.specs.Settling.{link_key};
 
 use crate::entry::Branch;
 use crate::fold::fold;
+use crate::held::Holding;
 use crate::history::History;
 use crate::vote::parts_of;
 use crate::write::{aborted_body, committed_body, done_body, opening_body, write};
 use dl_areas::{an_append_writes_one_record, steps_end_so};
-use dl_base::{AppendFault, Area, BeginFault, Bench, Full, LinkRow, List, Memory, StepFault};
+use dl_base::{AppendFault, Area, BeginFault, Bench, Full, LinkRow, List, Memory, Path, StepFault};
 use dl_codec::Taken;
 use dl_journal::Journal;
 use std::alloc::Global;
@@ -206,6 +208,13 @@ impl Branches {
         self.history.opening()
     }
 
+    /// How many bytes the records and the closing gate of its area are. It takes no memory.
+    pub fn length(&self) -> u64
+        ensures { result ≡ self.now.length }
+    {
+        self.journal.length()
+    }
+
     /// The transaction of each Prepared, in the order of the records: exactly those that have a branch. The error is want of memory, and
     /// changes nothing.
     pub fn branches(&self) -> Result<List<u64>, Memory>
@@ -231,6 +240,13 @@ impl Branches {
         ensures { IfOk result (λ txs. txs ≡ in_doubt self.now.links.table) }
     {
         self.history.in_doubt(self.alloc)
+    }
+
+    /// The link that is held on a path, beside it; None exactly where there is none. It takes no memory.
+    pub fn held_on(&self, path: &Path) -> Option<Holding>
+        ensures { row_on path.now result ≡ maps.get self.now.links.held path.now }
+    {
+        self.history.held_on(path)
     }
 
     /// The links that are held, each once, in the order of their numbers. The cost is n log n of them; the error is want of memory, and

@@ -3,6 +3,7 @@ ghost use Rattle.std.specs.Prelude.{◌≡◌};
 ghost use Rattle.fm_branch.specs.Shown.{shown};
 ghost use Rattle.fm_branch.specs.Table.{is_in_doubt};
 ghost use Rattle.meaning_areas.specs.Branches.{is_phase, phase_number};
+ghost use Rattle.meaning_areas.specs.Stands.{is_open};
 
 use dl_base::{LinkRow, List};
 use dl_codec::BranchPhase;
@@ -15,6 +16,18 @@ pub struct Branch<'a> {
     pub gives: &'a List<LinkRow>,
     pub takes: &'a List<LinkRow>,
     pub fill: bool,
+}
+
+impl Branch<'_> {
+    /// Whether the branch is neither done nor aborted. It takes no memory.
+    pub fn is_in_doubt(&self) -> bool
+        ensures { result ≡ is_open self.now.phase }
+    {
+        match self.phase {
+            BranchPhase::Prepared | BranchPhase::Committed => true,
+            BranchPhase::Done | BranchPhase::Aborted => false,
+        }
+    }
 }
 
 /// What a transaction gives and takes, whether its takes are filled from the archive, and how far its branch is.
@@ -54,10 +67,7 @@ impl Entry {
     pub fn is_in_doubt(&self) -> bool
         ensures { result ≡ is_in_doubt self.now }
     {
-        match self.phase {
-            BranchPhase::Prepared | BranchPhase::Committed => true,
-            BranchPhase::Done | BranchPhase::Aborted => false,
-        }
+        self.lend().is_in_doubt()
     }
 
     /// Whether the branch is in this phase.

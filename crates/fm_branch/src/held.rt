@@ -53,8 +53,8 @@ impl HeldLinks {
         }
     }
 
-    // What is held on a path.
-    fn at(&self, path: &Path) -> Option<Holding>
+    /// The link that is held on a path, beside it. It takes no memory.
+    pub fn at(&self, path: &Path) -> Option<Holding>
         ensures { row_on path.now result ≡ maps.get (held_in self.now) path.now }
     {
         match self.places.get(path) {

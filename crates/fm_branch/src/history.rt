@@ -7,17 +7,18 @@ ghost use Rattle.std.specs.Option.{option_copied};
 ghost use Rattle.std.specs.Cmp.Lexicographic.{slice_cmp};
 ghost use Rattle.std.specs.Ordering.{nat_cmp};
 ghost use Rattle.dl_codec.specs.declared.links.BranchPhase.TheVariants as phases;
+ghost use Rattle.fm_branch.specs.Held.{row_on};
 ghost use Rattle.fm_branch.specs.Linked.{Recorded, with_prepared};
 ghost use Rattle.fm_branch.specs.Table.{AreNamed, in_doubt};
 ghost use Rattle.meaning_areas.specs.Branches.{Branch, branch, done_on, moved_by, moves_on, no_branches, opens_on, prepares_on, with_branch};
 ghost use Rattle.meaning_settling.specs.Settling.{link_key};
 
 use crate::entry::Entry;
-use crate::held::HeldLinks;
+use crate::held::{HeldLinks, Holding};
 use crate::settle::{make_places, settle};
 use crate::table::BranchTable;
 use crate::vote::{branch_of, may_prepare};
-use dl_base::{LinkRow, List, Memory};
+use dl_base::{LinkRow, List, Memory, Path};
 use dl_codec::{BranchPhase, Taken};
 use std::alloc::Global;
 use std::marker::Model;
@@ -194,6 +195,13 @@ impl History {
         ensures { IfOk result (λ txs. txs ≡ in_doubt self.now.links.table) }
     {
         self.table.in_doubt(alloc)
+    }
+
+    /// The link that is held on a path, beside it. It takes no memory.
+    pub fn held_on(&self, path: &Path) -> Option<Holding>
+        ensures { row_on path.now result ≡ maps.get self.now.links.held path.now }
+    {
+        self.held.at(path)
     }
 
     /// The links that are held, in the order of their numbers.

@@ -14,3 +14,4 @@ mod write;
 
 pub use branches::Branches;
 pub use entry::Branch;
+pub use held::Holding;

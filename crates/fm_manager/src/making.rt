@@ -1,18 +1,17 @@
 // The pieces of a Finish are made.
-ghost use Rattle.std.specs.Prelude.{◌≡◌, ◌≤◌, IfOk, IfSome, None, OnOk, Ok};
+ghost use Rattle.std.specs.Prelude.{◌≡◌, ◌≤◌, IfOk, IfSome, None, OnOk, Ok, filter, is_none};
 ghost use Rattle.std.specs.FinMap as maps;
 ghost use Rattle.dl_codec.specs.declared.links.BranchPhase.{BranchPhase as Phases};
 ghost use Rattle.fs_files.specs.Batch.{puts};
-ghost use Rattle.meaning_areas.specs.Stands.{is_open, open_branch};
-ghost use Rattle.meaning_settling.specs.Settling.{Moved};
+ghost use Rattle.meaning_areas.specs.Stands.{open_branch};
+ghost use Rattle.meaning_settling.specs.Settling.{Moved, link_key};
 ghost use Rattle.fm_manager.specs.Managed.{Roomier, kept_in};
 ghost use Rattle.fm_manager.specs.Pieces.{AreOf, HaveRoom, IsBatchOf, IsDoubtful, changes_in};
 
 use crate::manager::Manager;
 use crate::pieces::Pieces;
 use dl_base::{FileChange, LinkRow, List, Memory};
-use dl_codec::BranchPhase;
-use fm_archive::CopyMade;
+use fm_archive::{Archive, CopyMade};
 use fm_effects::{changes, copies};
 use fs_files::FilesMade;
 
@@ -49,7 +48,7 @@ impl Manager {
         let Some(branch) = self.branches.branch(tx) else {
             return Ok(None);
         };
-        if !is_in_doubt(branch.phase) {
+        if !branch.is_in_doubt() {
             return Ok(None);
         }
         let copies = copies(self.alloc, branch.gives, &self.files, &self.archive)?;
@@ -62,6 +61,22 @@ impl Manager {
             &self.archive,
         )?;
         Ok(Some(self.made(tx, copies, changes)?))
+    }
+
+    /// The pieces of a Finish without the copies that are stored by now. It takes no memory.
+    pub fn left(&self, pieces: Pieces) -> Pieces
+        ensures { result ≡ record pieces { copies = filter (λ c. is_none (maps.get self.now.archive.copies (link_key c.link))) pieces.copies } }
+    {
+        let Pieces {
+            tx,
+            copies,
+            changes,
+        } = pieces;
+        Pieces {
+            tx,
+            copies: unstored(&self.archive, copies),
+            changes,
+        }
     }
 
     // Pieces of these, for which there is room afterwards.
@@ -99,12 +114,17 @@ impl Manager {
     }
 }
 
-// Whether a branch is neither done nor aborted.
-fn is_in_doubt(phase: BranchPhase) -> bool
-    ensures { result ≡ is_open phase }
+// Those of some copies that are not stored yet.
+fn unstored(archive: &Archive, copies: List<CopyMade>) -> List<CopyMade>
+    ensures { result ≡ filter (λ c. is_none (maps.get archive.now.copies (link_key c.link))) copies }
 {
-    match phase {
-        BranchPhase::Prepared | BranchPhase::Committed => true,
-        BranchPhase::Done | BranchPhase::Aborted => false,
-    }
+    let mut items = copies.into_vec();
+    items.retain(|copy| is_unstored(archive, copy));
+    List::from_vec(items)
+}
+
+fn is_unstored(archive: &Archive, copy: &CopyMade) -> bool
+    ensures { result ≡ is_none (maps.get archive.now.copies (link_key copy.now.link)) }
+{
+    archive.copy(copy.link()).is_none()
 }

@@ -98,6 +98,13 @@ impl Files {
         self.table.list(self.alloc)
     }
 
+    /// How many bytes the records and the closing gate of its area are. It takes no memory.
+    pub fn length(&self) -> u64
+        ensures { result ≡ self.now.length }
+    {
+        self.journal.length()
+    }
+
     /// Why a command is refused, if it is, where this link of its path forbids it, if one does.
     pub fn test(
         &self,
@@ -254,7 +261,8 @@ impl Files {
 
     /// A batch of changes, of this transaction or, with 0, of a user's command. It makes room for the files that they put. The error
     /// is want of memory, and changes nothing but that there may be more room; it is also answered where no record can have the
-    /// changes, as 2^32 of them.
+    /// changes, as 2^32 of them. It costs the record's bytes, and, over many batches, a few steps for each file that is put; a single
+    /// call may take a step for each file that there is, where the room has to grow.
     pub fn made(&mut self, tx: u64, changes: List<FileChange>) -> Result<FilesMade, Memory>
         ensures value { IfOk result (λ made. made ≡ record { tx = tx; changes = changes }) }
         ensures same { self.new ≡ record self.old { spare = self.new.spare } }
