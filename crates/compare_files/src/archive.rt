@@ -15,7 +15,6 @@ ghost use Rattle.meaning_areas.specs.Stands.{open_in, txs_of};
 ghost use Rattle.meaning_settling.specs.Settling.{link_key};
 ghost use Rattle.meaning_tables.specs.Links.{links};
 
-use crate::doubt::is_open;
 use crate::effects::key_of;
 use crate::files::committed_links;
 use crate::numbers::{Numbers, numbers};
@@ -102,7 +101,7 @@ fn open_stands(branches: &Branches, tx: u64, sight: Sight<'_>) -> bool
     ensures { result ≡ open_stands (stands_at sight.entry.settled.now sight.entry.files.now.files sight.entry.archive.now.copies sight.entry.every.now) (open_in branches.now.links tx) }
 {
     match branches.branch(tx) {
-        Some(branch) => !is_open(branch.phase) || given_stand(branch.gives, sight),
+        Some(branch) => !branch.is_in_doubt() || given_stand(branch.gives, sight),
         None => true,
     }
 }

@@ -2,11 +2,10 @@
 ghost use Rattle.std.specs.Prelude.{◌≡◌, OnOk, Some};
 ghost use Rattle.compare_files.specs.Effects.{PutsBehind, effect, of_open, sourced};
 ghost use Rattle.fm_branch.specs.Shown.{shown};
-ghost use Rattle.meaning_areas.specs.Stands.{is_open, open_branch, open_in};
+ghost use Rattle.meaning_areas.specs.Stands.{open_branch, open_in};
 
 use crate::effects::{Effects, Sources, put_given, put_sources, put_taken};
 use dl_base::Memory;
-use dl_codec::BranchPhase;
 use fm_branch::{Branch, Branches};
 
 /// Puts what the branch of a transaction does on its paths behind what stands there, where it is in doubt.
@@ -23,7 +22,7 @@ pub fn put_effects_of(effects: &mut Effects, branches: &Branches, tx: u64) -> Re
 fn put_branch_effects(effects: &mut Effects, branch: Branch<'_>) -> Result<(), Memory>
     ensures { OnOk result (PutsBehind effects.old.entries effects.new.entries (λ q. of_open (effect q) (open_branch (Some (shown branch.entry))))) }
 {
-    if !is_open(branch.phase) {
+    if !branch.is_in_doubt() {
         return Ok(());
     }
     put_taken(effects, branch.takes, branch.fill)?;
@@ -43,18 +42,8 @@ pub fn put_sources_of(sources: &mut Sources, branches: &Branches, tx: u64) -> Re
 fn put_branch_sources(sources: &mut Sources, branch: Branch<'_>) -> Result<(), Memory>
     ensures { OnOk result (PutsBehind sources.old.entries sources.new.entries (λ q. of_open (sourced q) (open_branch (Some (shown branch.entry))))) }
 {
-    if !is_open(branch.phase) {
+    if !branch.is_in_doubt() {
         return Ok(());
     }
     put_sources(sources, branch.gives)
-}
-
-/// Whether a branch in this phase is in doubt.
-pub fn is_open(phase: BranchPhase) -> bool
-    ensures { result ≡ is_open phase }
-{
-    match phase {
-        BranchPhase::Prepared | BranchPhase::Committed => true,
-        BranchPhase::Done | BranchPhase::Aborted => false,
-    }
 }

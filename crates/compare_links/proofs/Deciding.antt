@@ -1,5 +1,5 @@
 -- Tests, and what they decide.
-use Rattle.std.proofs.Common.{◌≡◌, Bool, true, false, not, cond, Option, Some, None, refl, sym, ◌∙◌}
+use Rattle.std.proofs.Common.{◌≡◌, Bool, true, false, cond, Option, Some, None, refl}
 use Rattle.std.specs.Bool.{Decides}
 
 pub false_true : false ≡ true → ⊥
@@ -28,7 +28,3 @@ some_none (Some y) x e f = cc
 
 pub some_same : {A : Type 0} (x y : A) → Some x ≡ Some y → x ≡ y
 some_same x y e = cc
-
-pub not-off : (a b : Bool) → b ≡ not a → b ≡ false → a ≡ true
-not-off true b e f = refl
-not-off false b e f = absurd (false_true (sym f ∙ e))

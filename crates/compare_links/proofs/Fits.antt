@@ -17,10 +17,11 @@ use Rattle.meaning_settling.specs.Settled.{AreDistinct, IsNot, settle_open, sett
 use Rattle.meaning_settling.specs.Settling.{Kept, Moved, settle_one}
 use Rattle.meaning_tables.specs.Links.{links}
 use Rattle.meaning_tables.specs.Tables.{Tables}
-use Rattle.compare_links.proofs.Deciding.{decides-no, some_none}
+use Rattle.compare_links.proofs.Deciding.{decides-no, decides-yes, refuted, some_none}
 use Rattle.compare_links.proofs.Folded.{EndedHave, ended-have}
-use Rattle.compare_links.specs.Every.{OneRowEach}
-use Rattle.compare_links.specs.Fitting.{BranchFits, BranchesApart, CommitFits, EachBranch, EachCommit, HavePaths, HeldFits, LinksFit, held_settled, settle_held}
+use Rattle.compare_links.specs.Comparing.{ComparesTo}
+use Rattle.compare_links.specs.Every.{IsEvery}
+use Rattle.compare_links.specs.Fitting.{BranchFits, BranchesApart, CommitFits, CommitsFit, EachBranch, EachCommit, HavePaths, HeldFits, LinksFit, held_settled, settle_held}
 
 -- commits of distinct transactions
 
@@ -138,17 +139,16 @@ pub last-paths : (P : Commit → Type 0) → ((c : Commit) → P c → HavePaths
 last-paths P paths before [] first each = first
 last-paths P paths before (c ∷ cs) first each = last-paths P paths c.tables cs (paths c (each c (inl refl))) (λ d is. each d (inr is))
 
--- TEST BY TEST
+-- WHAT THE TESTS COME TO
 module _ (r : Commits) (l : Branches) (rows : (bodies : List (List ℕ)) × (rows_of bodies ≡ Ok r)) (made : AreDistinct (txs_of r.commits) × HaveMoved [] r.commits) where
   decided : (b : Bool) → Decides b (LinksFit r l) → (f : Folds) → f.rows ≡ r → f.links ≡ l → Decides b (ComparesAt f areas.Links)
   decided b decides f same_rows same_links = links-decide f r l same_rows same_links made.0 made.1 (ended-have rows.0 r rows.1) b decides
 
-  pub unlike : (LinksFit r l → ⊥) → (f : Folds) → f.rows ≡ r → f.links ≡ l → Decides false (ComparesAt f areas.Links)
-  unlike never = decided false (decides-no never)
+  pub unlike : (LinksFit r l → ⊥) → (f : Folds) → f.rows ≡ r → f.links ≡ l → ComparesTo f None
+  unlike never f same_rows same_links = refuted false (decided false (decides-no never) f same_rows same_links) refl
 
-  pub last-decides : EachBranch (BranchFits r) l.table → BranchesApart l → EachCommit (CommitFits r l.table) r.commits → OneRowEach r.commits → (b : Bool) → Decides b (HeldFits r l)
-      → (f : Folds) → f.rows ≡ r → f.links ≡ l → Decides b (ComparesAt f areas.Links)
-  last-decides branches apart commits one b decides = decided b (
-    λ e. record { branches = branches; apart = apart; commits = commits; rows = one; held = decides.0 e },
-    λ fits. decides.1 fits.held,
+  pub alike : EachBranch (BranchFits r) l.table → BranchesApart l → (every : Keyed LinkRow) → CommitsFit r l.table (Some every) → HeldFits r l → (f : Folds) → f.rows ≡ r → f.links ≡ l → ComparesTo f (Some every)
+  alike branches apart every commits held f same_rows same_links = (
+    (decided true (decides-yes (record { branches = branches; apart = apart; commits = commits.0; rows = commits.1; held = held })) f same_rows same_links).0 refl,
+    subst (λ (x : Commits). IsEvery x.commits every) (sym same_rows) commits.2,
   )

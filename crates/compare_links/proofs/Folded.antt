@@ -28,7 +28,7 @@ use Rattle.compare_links.proofs.Deciding.{false_true, some-if}
 
 -- what each record keeps holds of all that is folded
 module _ {S : Type 0} (step : S → List ℕ → Option S) (P : S → Type 0) (keeps : (s later : S) (body : List ℕ) → step s body ≡ Some later → P s → P later) where
-  folded-keeps : (bodies : List (List ℕ)) (place : ℕ) (first s : S) → folded step place (Ok first) bodies ≡ Ok s → P first → P s
+  pub folded-keeps : (bodies : List (List ℕ)) (place : ℕ) (first s : S) → folded step place (Ok first) bodies ≡ Ok s → P first → P s
   folded-keeps [] place first s e p = subst P (inside e) p
     where
       inside : ◌≡◌ {A = Result S ℕ} (Ok first) (Ok s) → first ≡ s

@@ -1,5 +1,5 @@
 -- Maps in memory, entry by entry.
-use Rattle.std.proofs.Common.{◌≡◌, ℕ, zero, suc, Bool, true, false, cond, ◌||◌, List, [], ◌∷◌, length, map, Option, Some, None, T, refl, sym, ap, ◌∙◌}
+use Rattle.std.proofs.Common.{◌≡◌, ℕ, zero, suc, Bool, true, false, cond, not, ◌&&◌, ◌||◌, List, [], ◌∷◌, length, map, Option, Some, None, T, refl, sym, ap, ◌∙◌}
 use Rattle.std.proofs.lemmas.Bool.{and_parts}
 use Rattle.std.proofs.lemmas.Map.Entries.{length-keys_of, length-values_of, lookup_from_place}
 use Rattle.std.proofs.lemmas.Map.Keys.{IsDistinct-from_sorted}
@@ -31,6 +31,15 @@ put-key k q new old e = e ∙ ap (λ b. cond b true old) (put-at k q) ∙ by (is
     by : (b : Bool) → cond b true old ≡ (b || old)
     by true = refl
     by false = refl
+
+pub out-key : (k q : List ℕ) (new old : Bool) → new ≡ cond (is_eq (slice_cmp nat_cmp k q)) false old → new ≡ (old && not (is_at q k))
+out-key k q new old e = e ∙ ap (λ b. cond b false old) (put-at k q) ∙ by (is_at q k) old
+  where
+    by : (b o : Bool) → cond b false o ≡ (o && not b)
+    by true true = refl
+    by true false = refl
+    by false true = refl
+    by false false = refl
 
 -- a map after a change of one key
 pub changed : {X : Type 0} (old new : List (List ℕ × X)) (k : List ℕ) (o : Option X)

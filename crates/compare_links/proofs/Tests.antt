@@ -1,19 +1,16 @@
--- The tests of commits and branches.
+-- The tests of branches.
 use Rattle.std.proofs.Common.{◌≡◌, ℕ, ◌/◌, ◌^◌, Bool, true, false, not, ◌&&◌, ◌||◌, nat_le, Option, Some, None, is_some, refl, sym, ap, subst, ◌∙◌}
 use Rattle.std.proofs.lemmas.Bool.{and_parts, and_from}
 use Rattle.std.specs.Bool.{Decides}
-use Rattle.std.specs.FinMap as maps
 use Rattle.dl_codec.specs.declared.links.BranchPhase.{BranchPhase}
 use Rattle.dl_codec.specs.declared.links.BranchPhase.TheVariants as phases
-use Rattle.fm_branch.specs.Table.{Table}
 use Rattle.meaning_areas.specs.Branches.{Branch, branch, is_phase}
-use Rattle.meaning_areas.specs.Commits.{Commit, Commits, commit_of, has_number}
-use Rattle.meaning_areas.specs.Stands.{IsBranch, is_past}
+use Rattle.meaning_areas.specs.Commits.{Commits, commit_of}
+use Rattle.meaning_areas.specs.Stands.{is_past}
 use Rattle.meaning_settling.specs.Settling.{Moved}
-use Rattle.meaning_tables.specs.Links.{links}
 use Rattle.compare_links.proofs.Deciding.{false_true, some_none, some_same}
 use Rattle.compare_links.proofs.LinkLists.{drawn-decides, le-decides}
-use Rattle.compare_links.specs.Fitting.{BranchFits, CommitFits, IsDoneAt, are_drawn, branch_fits, is_done_at, paths_differ}
+use Rattle.compare_links.specs.Fitting.{BranchFits, IsDoneAt, are_drawn, branch_fits, is_done_at}
 use Rattle.compare_links.specs.Walking.{IfThere}
 
 -- a branch
@@ -73,19 +70,4 @@ done-decides false (Some b) = (λ _ e. absurd (false_true e), λ _. refl)
 done-decides true (Some b) = (
   λ e _. (b.moved, (λ i. Some (record { moved = b.moved; phase = phase-is b.phase e i }))),
   λ done. ap (λ (x : Branch). is_phase x.phase phases.Done) (some_same b (branch (done refl).0 phases.Done) (done refl).1),
-)
-
--- a commit
-
-pub commit-yes : (r : Commits) (table : Table) (c : Commit) (b : Bool) → IsBranch c.branch c.gives c.takes (maps.get table c.tx) → is_done_at (has_number c.tx r.ended) (maps.get table c.tx) ≡ true → nat_le (c.tx / 2 ^ 32) r.opening ≡ true
-    → b ≡ (are_drawn r.opening (links c.tables) && paths_differ (links c.tables)) → Decides b (CommitFits r table c)
-commit-yes r table c b has done drawn e = (
-  λ t. let two = and_parts (are_drawn r.opening (links c.tables)) (paths_differ (links c.tables)) (sym e ∙ t) in record {
-    branch = has;
-    ended = (done-decides (has_number c.tx r.ended) (maps.get table c.tx)).0 done;
-    number = (le-decides (c.tx / 2 ^ 32) r.opening).0 drawn;
-    drawn = (drawn-decides r.opening (links c.tables) (are_drawn r.opening (links c.tables)) refl).0 two.0;
-    paths = two.1;
-  },
-  λ fits. e ∙ and_from (are_drawn r.opening (links c.tables)) (paths_differ (links c.tables)) ((drawn-decides r.opening (links c.tables) (are_drawn r.opening (links c.tables)) refl).1 fits.drawn) fits.paths,
 )

@@ -13,7 +13,7 @@ use Rattle.meaning_settling.specs.Keyed.{Keyed, is_at, over}
 use Rattle.meaning_settling.specs.Settling.{Moved, held_after, on, paths_of}
 use Rattle.meaning_tables.specs.Fits.{differ}
 use Rattle.meaning_tables.specs.Links.{links}
-use Rattle.compare_links.specs.Every.{OneRowEach}
+use Rattle.compare_links.specs.Every.{IsEvery, OneRowEach}
 
 -- no two links are on one path
 abbrev pub paths_differ : List LinkRow → Bool
@@ -48,6 +48,11 @@ is_done_at ended (Some b) = not ended || is_phase b.phase Done
 
 abbrev pub EachCommit : (Commit → Type 0) → List Commit → Type 0
 EachCommit P cs = (c : Commit) → IsCommit c cs → P c
+
+-- what all commits come to: nothing where one does not fit or two have different links of one number, else their links by numbers
+abbrev pub CommitsFit : Commits → Table → Option (Keyed LinkRow) → Type 0
+CommitsFit rows table None = EachCommit (CommitFits rows table) rows.commits → OneRowEach rows.commits → ⊥
+CommitsFit rows table (Some every) = EachCommit (CommitFits rows table) rows.commits × OneRowEach rows.commits × IsEvery rows.commits every
 
 -- WHAT IS ASKED OF EACH BRANCH
 pub record BranchFits (rows : Commits) (tx : ℕ) (b : Branch) : Type 0 where

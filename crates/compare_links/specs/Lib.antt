@@ -1,3 +1,5 @@
+pub mod Comparing
 pub mod Every
 pub mod Fitting
+pub mod Moving
 pub mod Walking

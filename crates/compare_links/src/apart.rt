@@ -10,7 +10,6 @@ ghost use Rattle.meaning_areas.specs.Branches.{given_on};
 ghost use Rattle.meaning_areas.specs.Stands.{open_in};
 ghost use Rattle.meaning_settling.specs.Keyed.{is_at};
 
-use crate::branches::is_open;
 use dl_base::{Copied, LinkRow, List, Memory, Path};
 use fm_branch::Branches;
 use std::alloc::Global;
@@ -50,7 +49,7 @@ fn put_branch(
 {
     match branches.branch(tx) {
         Some(branch) => {
-            if !is_open(branch.phase) {
+            if !branch.is_in_doubt() {
                 return Ok(true);
             }
             if !are_free_for(owners, tx, branch.gives) {

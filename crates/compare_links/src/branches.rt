@@ -6,7 +6,7 @@ ghost use Rattle.compare_links.specs.Fitting.{BranchFits, EachBranch, branch_fit
 ghost use Rattle.compare_links.specs.Walking.{IfThere};
 ghost use Rattle.fm_branch.specs.Shown.{shown};
 ghost use Rattle.fm_branch.specs.Table.{AreNamed};
-ghost use Rattle.meaning_areas.specs.Stands.{is_open, is_past};
+ghost use Rattle.meaning_areas.specs.Stands.{is_past};
 
 use crate::rows::are_drawn;
 use db_store::Store;
@@ -63,15 +63,5 @@ fn is_past(phase: BranchPhase) -> bool
     match phase {
         BranchPhase::Committed | BranchPhase::Done => true,
         BranchPhase::Prepared | BranchPhase::Aborted => false,
-    }
-}
-
-/// Whether a branch in this phase is in doubt.
-pub fn is_open(phase: BranchPhase) -> bool
-    ensures { result ≡ is_open phase }
-{
-    match phase {
-        BranchPhase::Prepared | BranchPhase::Committed => true,
-        BranchPhase::Done | BranchPhase::Aborted => false,
     }
 }

@@ -1,57 +1,109 @@
-// What is asked of each commit.
-ghost use Rattle.std.specs.Prelude.{◌≡◌, ◌&&◌, ◌==◌, ◌/◌, ◌^◌, [], IfOk, Some, length, nat_le, true};
+// The commits, one after another: what is asked of each, and the links of all.
+ghost use Rattle.std.specs.Prelude.{◌≡◌, ◌&&◌, ◌+◌, ◌==◌, ◌/◌, ◌^◌, ℕ, List, [], IfOk, Some, length, nat_le, true};
+ghost use Rattle.std.specs.BTreeMap.{get};
+ghost use Rattle.std.specs.BTreeSet.{contains};
 ghost use Rattle.std.specs.Bool.{Decides};
+ghost use Rattle.std.specs.Cmp.Lexicographic.{slice_cmp};
 ghost use Rattle.std.specs.Option.{option_map};
-ghost use Rattle.compare_links.specs.Fitting.{CommitFits, EachCommit, are_drawn, is_done_at, paths_differ};
+ghost use Rattle.std.specs.Ordering.{nat_cmp};
+ghost use Rattle.compare_links.specs.Every.{first_row};
+ghost use Rattle.compare_links.specs.Fitting.{CommitsFit, are_drawn, is_done_at};
+ghost use Rattle.compare_links.specs.Moving.{AreSteps, IsStep, StepFits, all_agree, are_free, with_paths, without_paths};
 ghost use Rattle.db_store.specs.Log.{commit_between};
 ghost use Rattle.dl_codec.specs.declared.links.BranchPhase.TheVariants as phases;
 ghost use Rattle.fm_branch.specs.Shown.{shown};
 ghost use Rattle.meaning_areas.specs.Branches.{is_phase};
 ghost use Rattle.meaning_areas.specs.Commits.{HaveMoved};
 ghost use Rattle.meaning_areas.specs.Stands.{IsBranch};
+ghost use Rattle.meaning_settling.specs.Settling.{numbered};
+ghost use Rattle.meaning_tables.specs.Fits.{Fits};
 ghost use Rattle.meaning_tables.specs.Links.{gives, takes};
 ghost use Rattle.meaning_tables.specs.Links as meant;
 
-use crate::rows::{are_drawn, paths_differ};
+use crate::agree::tables_agree;
+use crate::changed::{changed_tables, moved};
+use crate::every::{EveryLink, listed, put_rows};
+use crate::paths::{give_paths, take_paths};
+use crate::rows::are_drawn;
 use crate::walk::{Passed, commit_after};
 use db_store::Store;
-use dl_base::{LinkRow, List, Memory, Same};
+use dl_base::{LinkRow, List, Memory, Path, Same};
 use dl_codec::BranchPhase;
 use fm_branch::{Branch, Branches};
-use sql_table::{Tables, gives_takes, links};
+use sql_table::Tables;
 use std::alloc::Global;
+use std::collections::{BTreeMap, BTreeSet};
 
-/// Whether each commit with a branch has a Prepared of its number, not aborted, with the links that it took away and added, and each
-/// other one no Prepared and no such links; each branch that has ended is Done; no transaction of a commit, nor of its links, is of a
-/// later opening than the last; and the links after each commit have distinct paths. It costs the changes of each commit, what
-/// `gives_takes` does from each to the next, and a look at each row after each of them.
-pub fn commits_fit(alloc: Global, store: &Store, branches: &Branches) -> Result<bool, Memory>
-    requires { HaveMoved [] store.now.rows.commits }
-    ensures { IfOk result (λ fits. Decides fits (EachCommit (CommitFits store.now.rows branches.now.links.table) store.now.rows.commits)) }
+/// What is known of links, as far as the commits have been gone through: the paths that are linked after the last of them, and the
+/// links of all of them by their numbers.
+#[derive(Drop)]
+struct Known {
+    paths: BTreeSet<Path>,
+    rows: BTreeMap<[u64; 2], LinkRow>,
+}
+
+/// The links of all commits; None exactly where one of these does not hold. Each commit with a branch has a Prepared of its number, not
+/// aborted, with the links that it took away and added, and each other one has no Prepared and no such links. Each branch that has
+/// ended is Done. No transaction of a commit, nor of its links, is of a later opening than the last. The links after each commit have
+/// distinct paths. No two commits have links of one number that differ in their paths or options.
+///
+/// It costs the changes of each commit and the number of its tables. Of the tables that it changed, and no others, it costs what
+/// `gives_takes` does before and after it, and a look at each row where they have links: a link whose path is another under the same
+/// number is neither taken away nor added. Each link that is taken away or added costs a logarithm.
+pub fn commits_fit(
+    alloc: Global,
+    store: &Store,
+    branches: &Branches,
+) -> Result<Option<EveryLink>, Memory>
+    requires moved { HaveMoved [] store.now.rows.commits }
+    requires steps { AreSteps 1 [] store.now.rows.commits }
+    ensures { IfOk result (λ every. CommitsFit store.now.rows branches.now.links.table every) }
 {
     let mut before = Tables::empty(alloc);
+    let mut known = Known {
+        paths: BTreeSet::new(alloc),
+        rows: BTreeMap::new(alloc),
+    };
     for index in 0..store.commits() {
         let passed = commit_after(store, index, &before)?;
-        if !commit_fits(alloc, store, branches, &before, &passed)? {
+        if !commit_fits(
+            alloc,
+            store,
+            branches,
+            &before,
+            index + 1,
+            &passed,
+            &mut known,
+        )? {
             drop(passed);
             drop(before);
-            return Ok(false);
+            drop(known);
+            return Ok(None);
         }
         let Passed { tables, .. } = passed;
         before = tables;
     }
-    Ok(true)
+    drop(before);
+    let Known { paths, rows } = known;
+    drop(paths);
+    Ok(Some(listed(alloc, rows)?))
 }
 
-// Whether a commit fits, from the tables before it.
+// Whether the commit of a number fits, from the tables before it and what is known then; what is known goes on to it.
 fn commit_fits(
     alloc: Global,
     store: &Store,
     branches: &Branches,
     before: &Tables,
+    number: u64,
     passed: &Passed,
+    known: &mut Known,
 ) -> Result<bool, Memory>
-    ensures { IfOk result (λ fits. Decides fits (CommitFits store.now.rows branches.now.links.table (commit_between before.now passed.now.tx passed.now.branch passed.now.tables))) }
+    requires step { IsStep number before.now passed.now.tables }
+    requires before { Fits before.now }
+    ensures fits { IfOk result (λ fits. Decides fits (StepFits store.now.rows branches.now.links.table number (contains (slice_cmp nat_cmp) known.old.paths) (get (slice_cmp nat_cmp) known.old.rows) (commit_between before.now passed.now.tx passed.now.branch passed.now.tables))) }
+    ensures paths { IfOk result (λ fits. fits ≡ true → (q : List ℕ) → contains (slice_cmp nat_cmp) known.new.paths q ≡ with_paths (takes before.now passed.now.tables) (without_paths (gives before.now passed.now.tables) (contains (slice_cmp nat_cmp) known.old.paths)) q) }
+    ensures rows { IfOk result (λ fits. fits ≡ true → (n : List ℕ) → get (slice_cmp nat_cmp) known.new.rows n ≡ first_row (get (slice_cmp nat_cmp) known.old.rows n) (numbered (takes before.now passed.now.tables) n)) }
 {
     if !is_drawn(store, passed.tx) {
         return Ok(false);
@@ -60,10 +112,39 @@ fn commit_fits(
     if !is_done_at(store.is_ended(passed.tx), branch) {
         return Ok(false);
     }
-    if !has_branch(alloc, passed.branch, before, &passed.tables, branch)? {
+    let touched = changed_tables(alloc, number, &passed.tables)?;
+    let (gives, takes) = moved(alloc, number, before, &passed.tables, &touched)?;
+    if !is_branch(passed.branch, &gives, &takes, branch) {
         return Ok(false);
     }
-    links_fit(alloc, store.opening(), &passed.tables)
+    links_fit(store.opening(), &touched, &gives, &takes, known)
+}
+
+// Whether the links after a commit fit what is known before it, from the tables that it changed and the links that it gave and took;
+// what is known goes on to them.
+fn links_fit(
+    opening: u32,
+    touched: &Tables,
+    gives: &List<LinkRow>,
+    takes: &List<LinkRow>,
+    known: &mut Known,
+) -> Result<bool, Memory>
+    ensures fit { IfOk result (λ fit. fit ≡ (are_drawn opening takes.now && all_agree (get (slice_cmp nat_cmp) known.old.rows) (meant.links touched.now) && are_free (without_paths gives.now (contains (slice_cmp nat_cmp) known.old.paths)) takes.now)) }
+    ensures paths { IfOk result (λ fit. fit ≡ true → (q : List ℕ) → contains (slice_cmp nat_cmp) known.new.paths q ≡ with_paths takes.now (without_paths gives.now (contains (slice_cmp nat_cmp) known.old.paths)) q) }
+    ensures rows { IfOk result (λ fit. fit ≡ true → (n : List ℕ) → get (slice_cmp nat_cmp) known.new.rows n ≡ first_row (get (slice_cmp nat_cmp) known.old.rows n) (numbered takes.now n)) }
+{
+    if !are_drawn(opening, takes) {
+        return Ok(false);
+    }
+    if !tables_agree(&known.rows, touched) {
+        return Ok(false);
+    }
+    give_paths(&mut known.paths, gives);
+    if !take_paths(&mut known.paths, takes)? {
+        return Ok(false);
+    }
+    put_rows(&mut known.rows, takes)?;
+    Ok(true)
 }
 
 // Whether a transaction is of no later opening than the last.
@@ -90,20 +171,6 @@ fn is_done(phase: BranchPhase) -> bool
         BranchPhase::Done => true,
         BranchPhase::Prepared | BranchPhase::Committed | BranchPhase::Aborted => false,
     }
-}
-
-// Whether the branch is that of a commit from some tables to others.
-fn has_branch(
-    alloc: Global,
-    has: bool,
-    before: &Tables,
-    after: &Tables,
-    branch: Option<Branch<'_>>,
-) -> Result<bool, Memory>
-    ensures { IfOk result (λ is. Decides is (IsBranch has (gives before.now after.now) (takes before.now after.now) (option_map shown branch.entry))) }
-{
-    let (gives, takes) = gives_takes(alloc, before, after)?;
-    Ok(is_branch(has, &gives, &takes, branch))
 }
 
 // Whether the branch is that of a commit with these links.
@@ -158,16 +225,4 @@ fn are_none(gives: &List<LinkRow>, takes: &List<LinkRow>) -> bool
     ensures { result ≡ ((length gives.now == 0) && (length takes.now == 0)) }
 {
     gives.len() == 0 && takes.len() == 0
-}
-
-// Whether the links of tables have distinct paths, and transactions of no later opening.
-fn links_fit(alloc: Global, opening: u32, tables: &Tables) -> Result<bool, Memory>
-    ensures { IfOk result (λ fit. fit ≡ (are_drawn opening (meant.links tables.now) && paths_differ (meant.links tables.now))) }
-{
-    let rows = links(alloc, tables)?;
-    if !are_drawn(opening, &rows) {
-        drop(rows);
-        return Ok(false);
-    }
-    paths_differ(alloc, &rows)
 }

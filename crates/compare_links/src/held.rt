@@ -11,7 +11,6 @@ ghost use Rattle.meaning_areas.specs.Commits.{tables_after};
 ghost use Rattle.meaning_areas.specs.Stands.{open_in, txs_of};
 ghost use Rattle.meaning_tables.specs.Links as meant;
 
-use crate::branches::is_open;
 use crate::walk::transaction;
 use db_store::Store;
 use dl_base::{Copied, LinkRow, List, Memory, Path, Same};
@@ -81,7 +80,7 @@ fn settle(held: &mut BTreeMap<Path, LinkRow>, branches: &Branches, tx: u64) -> R
 {
     match branches.branch(tx) {
         Some(branch) => {
-            if is_open(branch.phase) {
+            if branch.is_in_doubt() {
                 give_all(held, branch.gives);
                 take_all(held, branch.takes)?;
             }

@@ -1,16 +1,19 @@
 //! Whether the areas Rows and Links fit each other, as an opening asks it once both are folded: the commits with the branches, and
-//! what is held after settling with what the last commit links. Beside it the links of all commits by their numbers, on which the
-//! comparison with the archived copies stands.
+//! what is held after settling with what the last commit links. What it comes to are the links of all commits by their numbers, on
+//! which the comparison with the archived copies stands.
 #![tactic(auto)]
 
+mod agree;
 mod apart;
 mod branches;
+mod changed;
 mod commits;
 mod compare;
 mod every;
 mod held;
+mod paths;
 mod rows;
 mod walk;
 
 pub use compare::links_compare;
-pub use every::{EveryLink, every_link};
+pub use every::EveryLink;

@@ -4,17 +4,11 @@ use Rattle.std.specs.Cmp.Lexicographic.{slice_cmp}
 use Rattle.std.specs.Option.{option_copied}
 use Rattle.std.specs.Ordering.{nat_cmp}
 use Rattle.meaning_settling.specs.Settling.{link_key}
-use Rattle.compare_links.proofs.Numbers.{agrees-by, kept-row}
+use Rattle.compare_links.proofs.Numbers.{kept-row}
 use Rattle.compare_links.proofs.every.put_row.Goals as goal
 
-pub returns-in-Some-clause-agrees : goal.returns-in-Some-clause-agrees
-returns-in-Some-clause-agrees c =
-    let found : get (slice_cmp nat_cmp) c.args.rows.now (link_key c.args.link.now.link) ≡ Some c.in-Some.row.now =
+pub returns-in-Some : goal.returns-in-Some
+returns-in-Some c n =
+    let found : get (slice_cmp nat_cmp) c.args.rows.now (link_key c.args.link.now.link) ≡ Some c.in-Some.field-0.now =
     ap (λ (q : List ℕ). get (slice_cmp nat_cmp) c.args.rows.now q) (sym c.number_of.ensures) ∙ sym c.get.ensures.value ∙ ap option_copied c.in-Some.is in
-    agrees-by (get (slice_cmp nat_cmp) c.args.rows.now (link_key c.args.link.now.link)) c.in-Some.row.now c.args.link.now c.same.result found c.same.ensures
-
-pub returns-in-Some-clause-rows : goal.returns-in-Some-clause-rows
-returns-in-Some-clause-rows c n =
-    let found : get (slice_cmp nat_cmp) c.args.rows.now (link_key c.args.link.now.link) ≡ Some c.in-Some.row.now =
-    ap (λ (q : List ℕ). get (slice_cmp nat_cmp) c.args.rows.now q) (sym c.number_of.ensures) ∙ sym c.get.ensures.value ∙ ap option_copied c.in-Some.is in
-    kept-row (get (slice_cmp nat_cmp) c.args.rows.now) (link_key c.args.link.now.link) n c.in-Some.row.now c.args.link.now found
+    kept-row (get (slice_cmp nat_cmp) c.args.rows.now) (link_key c.args.link.now.link) n c.in-Some.field-0.now c.args.link.now found

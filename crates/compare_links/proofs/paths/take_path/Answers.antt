@@ -4,7 +4,7 @@ use Rattle.std.specs.Cmp.Lexicographic.{slice_cmp}
 use Rattle.std.specs.Ordering.{nat_cmp}
 use Rattle.meaning_settling.specs.Keyed.{is_at}
 use Rattle.compare_links.proofs.Maps.{put-key}
-use Rattle.compare_links.proofs.rows.put_path.Goals as goal
+use Rattle.compare_links.proofs.paths.take_path.Goals as goal
 
 pub returns-clause-paths : goal.returns-clause-paths
 returns-clause-paths c q =
