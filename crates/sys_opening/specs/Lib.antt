@@ -1,0 +1,5 @@
+pub mod Begun
+pub mod Faults
+pub mod Halting
+pub mod Owned
+pub mod Resolving
