@@ -5,8 +5,6 @@
 mod asking;
 mod finding;
 mod keys;
-#[cfg(test)]
-mod tests;
 
 pub use asking::{Wanted, asked, asked_by_all, is_never_refused};
 pub use finding::{KeyRows, rows_asked, rows_with_key};

@@ -8,8 +8,6 @@ mod base;
 #[cfg(test)]
 mod bench;
 #[cfg(test)]
-mod codec;
-#[cfg(test)]
 mod digits;
 #[cfg(test)]
 mod files;
