@@ -1,1 +1,11 @@
 pub mod Examples
+pub mod Records
+pub mod NoRecords
+pub mod CommandLines
+pub mod FileCommands
+pub mod Lines
+pub mod Expansion
+pub mod Options
+pub mod Tables
+pub mod Changes
+pub mod Expressions
