@@ -1,0 +1,5 @@
+pub mod Carrying
+pub mod Guarded
+pub mod Commanded
+pub mod Behind
+pub mod Made

@@ -1,0 +1,9 @@
+use Rattle.std.proofs.Common.{ap, ◌∙◌}
+use Rattle.sys_seats.proofs.Sums.{all-entries, if_some}
+use Rattle.sys_seats.specs.Seats.{Seated, all_of, votes_of}
+use Rattle.sys_seats.proofs.seats.Seats.votes.Goals as goal
+
+pub returns : goal.returns
+returns c =
+    if_some c.votes_in.result c.votes_in.ensures.sum (λ n is.
+    is ∙ all-entries votes_of c.self.inside.entries.entries c.votes_in.ensures.ordered ∙ ap (λ (m : Seated). all_of votes_of m) c.self.view_is)
