@@ -1,0 +1,8 @@
+use Rattle.sys_core.proofs.Roomy.{room-made, roomier-copies}
+use Rattle.sys_core.proofs.vote.make_room.Goals as goal
+
+pub returns-clause-same : goal.returns-clause-same
+returns-clause-same c =
+    let w = c.args.owners.now in
+    room-made w c.make_room.new.self c.make_room-2.new.self c.make_room.ensures.same c.make_room.ensures.spare
+    (roomier-copies w.manager c.make_room-2.new.self c.make_room-2.ensures.same c.make_room-2.ensures.spare)

@@ -1,0 +1,22 @@
+//! The steps of the machine over the owners of the five areas: BEGIN, statements, the vote, the decision and its Finish, ROLLBACK, and
+//! commands on files.
+#![tactic(auto)]
+
+mod begin;
+mod claim;
+mod command;
+mod decide;
+mod ending;
+mod engine;
+mod finish;
+mod guard;
+mod laws;
+mod prepare;
+mod refusing;
+mod roll_back;
+mod statement;
+mod versions;
+mod vote;
+
+pub use engine::Engine;
+pub use laws::steps_leave_other_sessions;
