@@ -1,10 +1,9 @@
 -- WHY A TRANSACTION IS NOT VOTED FOR, what is made for a vote, and its record.
-use Rattle.std.proofs.Common.{◌≡◌, ◌+◌, ◌<◌, ◌≤◌, ℕ, length, get_or, drop, true, false, cond, List, ◌∷◌, Option, Some, None, is_none, refl, sym, ◌∙◌, ap, subst}
-use Rattle.std.proofs.lemmas.List.{at_drop_all, drop_more}
+use Rattle.std.proofs.Common.{◌≡◌, ◌≤◌, ℕ, length, drop, true, false, cond, List, ◌∷◌, Some, None, refl, sym, ◌∙◌, ap, subst}
+use Rattle.std.proofs.lemmas.List.{at_drop_all}
 use Rattle.std.specs.FinMap as maps
-use Rattle.dl_base.specs.declared.answer.ClaimRefusal.TheVariants as claims
+use Rattle.dl_base.specs.declared.answer.Refusal.{Refusal}
 use Rattle.dl_base.specs.declared.answer.Refusal.TheVariants as reasons
-use Rattle.dl_base.specs.declared.file.File.{File}
 use Rattle.dl_base.specs.declared.value.LinkRow.{LinkRow}
 use Rattle.fm_links.specs.Claims.{moved}
 use Rattle.fm_manager.specs.Managed.{Managed}
@@ -19,7 +18,9 @@ use Rattle.meaning_settling.specs.Settling.{Copies, Kept, Moved}
 use Rattle.meaning_system.proofs.Leading.{txn-there}
 use Rattle.meaning_system.specs.Claims.{doomed, files_refusal, no_file, or_else, prepare_refusal, seen_or_zero}
 use Rattle.meaning_system.specs.State.{State, Txn, has_links, is_decided, is_doomed, kept_in, moved_of, txn_of}
+use Rattle.sys_core.proofs.Refusals.{first-is, second-is}
 use Rattle.sys_core.proofs.Seating.{seat-doomed, seat-is, seat-moved, seat-of}
+use Rattle.sys_core.specs.Claiming.{doomed_at, file_refusal_in}
 use Rattle.sys_core.specs.Seated.{IsSeatOf, is_doomed_at}
 use Rattle.sys_core.specs.Standing.{IsOf}
 use Rattle.sys_core.specs.Voting.{CanVote}
@@ -42,9 +43,6 @@ seat-found first w s tx t x is at found = seat-is s w.seats tx t x is.seats at (
 pub there-in : (s : State) (session tx : ℕ) (t : Txn) → txn_of s session ≡ Some (tx, t) → maps.get s.txs tx ≡ Some t
 there-in s session tx t of = (txn-there s (maps.get s.sessions session) (tx, t) of).0
 
-true_false : true ≡ false → ⊥
-true_false e = cc
-
 -- THE REFUSAL of a vote, by what is kept of the transaction
 
 -- a transaction without links is voted for
@@ -63,16 +61,15 @@ module _ (s : State) (tx : ℕ) (t : Txn) (x : Seat) (is : IsSeatOf s tx t x) wh
     with-links : prepare_refusal s t ≡ or_else (doomed s t) (files_refusal s (moved_of t).takes)
     with-links = ap (λ b. cond b (or_else (doomed s t) (files_refusal s (moved_of t).takes)) None) (sym links-at ∙ has)
 
-    pub doomed-first : is_doomed_at opening x ≡ true → Some (reasons.Doomed (seen_or_zero x.claim.seen) opening) ≡ prepare_refusal s t
-    doomed-first is_so =
-        (λ i. Some (reasons.Doomed (seen_or_zero (is.seen i)) (same i)))
-        ∙ sym (ap (λ b. or_else (cond b (Some (reasons.Doomed (seen_or_zero t.seen) s.links_opening)) None) (files_refusal s (moved_of t).takes)) (sym doomed-at ∙ is_so))
-        ∙ sym with-links
+    doomed-is : doomed_at opening (Some x) ≡ doomed s t
+    doomed-is = λ i. cond (doomed-at i) (Some (reasons.Doomed (seen_or_zero (is.seen i)) (same i))) None
 
-    pub files-first : is_doomed_at opening x ≡ false → files_refusal s x.claim.takes ≡ prepare_refusal s t
-    files-first is_not =
-        ap (files_refusal s) is.takes
-        ∙ sym (ap (λ b. or_else (cond b (Some (reasons.Doomed (seen_or_zero t.seen) s.links_opening)) None) (files_refusal s (moved_of t).takes)) (sym doomed-at ∙ is_not))
+    pub doomed-first : (why : Refusal) → Some why ≡ doomed_at opening (Some x) → Some why ≡ prepare_refusal s t
+    doomed-first why here = first-is why (doomed s t) (files_refusal s (moved_of t).takes) (here ∙ doomed-is) ∙ sym with-links
+
+    pub files-first : None ≡ doomed_at opening (Some x) → files_refusal s x.claim.takes ≡ prepare_refusal s t
+    files-first none =
+        second-is (files_refusal s x.claim.takes) (doomed s t) (files_refusal s (moved_of t).takes) (none ∙ doomed-is) (ap (files_refusal s) is.takes)
         ∙ sym with-links
 
 -- an engine has the opening and the files of its state
@@ -86,25 +83,18 @@ pub copies-of : (first : ℕ) (w : Engine) (s : State) → IsOf first w s → s.
 copies-of first w s is = sym is.sound.follows.joint.copies
 
 -- what a loop over the takes finds
-module _ (s : State) (xs all : List LinkRow) (i : ℕ) (d : LinkRow) (same : xs ≡ all) (within : i < length xs) (is : d ≡ get_or xs i d) where
-  left : drop i all ≡ d ∷ drop (i + 1) all
-  left =
-      ap (λ (l : List LinkRow). drop i l) (sym same) ∙ drop_more xs i d within ∙ ap (λ (x : LinkRow). x ∷ drop (i + 1) xs) (sym is)
-      ∙ ap (λ (l : List LinkRow). d ∷ drop (i + 1) l) same
+module _ (s : State) (w : Engine) (all rest later : List LinkRow) (d : LinkRow) (same : s.files ≡ w.owners.manager.files.files) (split : rest ≡ d ∷ later) (so_far : files_refusal s rest ≡ files_refusal s all) where
+  one-is : file_refusal_in w d.path ≡ no_file d.path (maps.get s.files d.path)
+  one-is = ap (λ (f : Files). no_file d.path (maps.get f d.path)) (sym same)
 
-  pub file-there : is_none (maps.get s.files d.path) ≡ false → files_refusal s (drop i all) ≡ files_refusal s all → files_refusal s (drop (i + 1) all) ≡ files_refusal s all
-  file-there has so_far = by (maps.get s.files d.path) refl has ∙ so_far
-    where
-      by : (o : Option File) → maps.get s.files d.path ≡ o → is_none o ≡ false → files_refusal s (drop (i + 1) all) ≡ files_refusal s (drop i all)
-      by None at e = absurd (true_false e)
-      by (Some f) at e = sym (ap (files_refusal s) left ∙ ap (λ (o : Option File). or_else (no_file d.path o) (files_refusal s (drop (i + 1) all))) at)
+  all-are : or_else (no_file d.path (maps.get s.files d.path)) (files_refusal s later) ≡ files_refusal s all
+  all-are = ap (files_refusal s) (sym split) ∙ so_far
 
-  pub file-missing : is_none (maps.get s.files d.path) ≡ true → files_refusal s (drop i all) ≡ files_refusal s all → Some (reasons.Claim (claims.NoFile d.path)) ≡ files_refusal s all
-  file-missing none so_far = by (maps.get s.files d.path) refl none ∙ so_far
-    where
-      by : (o : Option File) → maps.get s.files d.path ≡ o → is_none o ≡ true → Some (reasons.Claim (claims.NoFile d.path)) ≡ files_refusal s (drop i all)
-      by None at e = sym (ap (files_refusal s) left ∙ ap (λ (o : Option File). or_else (no_file d.path o) (files_refusal s (drop (i + 1) all))) at)
-      by (Some f) at e = absurd (true_false (sym e))
+  pub file-missing : (why : Refusal) → Some why ≡ file_refusal_in w d.path → Some why ≡ files_refusal s all
+  file-missing why here = first-is why (no_file d.path (maps.get s.files d.path)) (files_refusal s later) (here ∙ one-is) ∙ all-are
+
+  pub file-there : None ≡ file_refusal_in w d.path → files_refusal s later ≡ files_refusal s all
+  file-there none = second-is (files_refusal s later) (no_file d.path (maps.get s.files d.path)) (files_refusal s later) (none ∙ one-is) refl ∙ all-are
 
 -- none is left to look at
 pub files-there : (s : State) (xs all : List LinkRow) (i : ℕ) → xs ≡ all → length xs ≤ i → files_refusal s (drop i all) ≡ files_refusal s all → None ≡ files_refusal s all

@@ -1,5 +1,5 @@
 -- What is kept of transactions, and what a session's own object has of them.
-use Rattle.std.specs.Prelude.{◌≡◌, ◌&&◌, ℕ, Bool, false, not, Option, Some, None}
+use Rattle.std.specs.Prelude.{◌≡◌, ◌&&◌, ℕ, Bool, not, Option, Some, None}
 use Rattle.std.specs.FinMap as maps
 use Rattle.db_changes.specs.Made.{Making}
 use Rattle.db_txn.specs.Transaction.{Transaction, made_of, vacant}

@@ -5,7 +5,7 @@ use Rattle.dl_base.specs.declared.step.Step.{Step}
 use Rattle.dl_base.specs.declared.step.Step.TheVariants as steps
 use Rattle.meaning_system.specs.State.{State, number_of}
 
--- not a step of this session, and none that ends transactions of several
+-- not a step of this session, and none that ends the transactions of sessions
 abbrev pub IsOther : Step → ℕ → Type 0
 IsOther (steps.Begin n) session = n ≢ session
 IsOther (steps.Statement n stmt) session = n ≢ session

@@ -29,7 +29,7 @@ abbrev pub undrawn : Option Full → List Write
 undrawn None = []
 undrawn (Some full) = write_of areas.Rows [] (Some full) ∷ []
 
--- a session without a transaction draws the next number
+-- BEGIN of a session without a transaction draws the next number (of the steps that are built no other draws one)
 abbrev pub draws_by : Option (ℕ × Txn) → ℕ → List Write
 draws_by None next = undrawn (draw_full next)
 draws_by (Some e) next = []

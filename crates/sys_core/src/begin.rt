@@ -23,7 +23,7 @@ use sys_seats::{Seat, SeatClaim, Stage, seats_count_together};
 impl Engine {
     /// BEGIN of a session that has no transaction: draws the next number and copies the committed tables, with which the copies share
     /// their rows. It is refused InTransaction where the session has one. The errors are `Full(Transactions)` where the opening has no
-    /// number left, and want of memory, after which all is as it was.
+    /// number left, behind which the areas are to be opened again, and want of memory, which leaves all as it was.
     pub fn begin(&mut self, txn: &mut Txn) -> Result<Answer, StepFault>
         requires { (first : ℕ) × (s : State) × IsOf first self.old s × HasTxn s txn.old }
         ensures steps { (first : ℕ) (s : State) → IsOf first self.old s → HasTxn s txn.old → StepsInMemory first (steps.Begin txn.old.session) s self.old self.new result }

@@ -22,7 +22,8 @@ use meaning_system::commands_and_backups_are_taken;
 impl Engine {
     /// A command of a user on files: create, write, delete, rename, chmod, read or list. The first refusal that applies is answered, among
     /// them Forbidden with the first link that forbids it: the committed one on the path, the one that a prepared transaction takes, the
-    /// one that a decided one gives. The errors are `Full(Area)`, `Device`, and want of memory, after which all is as it was.
+    /// one that a decided one gives. The errors are `Full(Area)` and `Device`, behind which the areas are to be opened again, and want of memory,
+    /// which leaves all as it was but for room.
     pub fn command<B: Bench>(&mut self, bench: &mut B, cmd: FileCmd) -> Result<Answer, StepFault>
         requires ready { AreReady (journals_of self.old.owners) (B.outside bench.old) }
         requires stands { (first : ℕ) × (s : State) × IsOf first self.old s }

@@ -27,7 +27,7 @@ impl Engine {
     /// The decision on the prepared transaction of a session. What changes nothing ends with Done. Where a table that its statements named
     /// has another version now than it saw, it is refused Conflict with that table and both versions, and ends; its branch is aborted.
     /// Else what it has made is the next commit, whose number is answered. Other refusals are NoTransaction and WrongPhase. The errors
-    /// are `Full(Area)` and `Device`. It takes no memory.
+    /// are `Full(Area)` and `Device`, behind which the areas are to be opened again. It takes no memory.
     pub fn decide<B: Bench>(&mut self, bench: &mut B, txn: &mut Txn) -> Result<Answer, AppendFault>
         requires ready { AreReady (journals_of self.old.owners) (B.outside bench.old) }
         requires stands { (first : ℕ) × (s : State) × IsOf first self.old s × HasTxn s txn.old }
@@ -59,7 +59,7 @@ impl Engine {
         ensures shows { (first : ℕ) (s : State) → IsOf first self.old s → HasTxn s txn.old → Shows (steps.Decide txn.old.session) s txn.old txn.new (as_step result) }
     {
         seats_count_together();
-        // what is put in its place is read by nobody
+        // what is put in its place is not active, so its claims count as there
         match self.seats.change_stage(tx, Stage::Decided(None)) {
             Some(Stage::Prepared(vote)) => self.decide_on(bench, txn, tx, vote),
             _ => unreachable!(),

@@ -61,7 +61,7 @@ impl Engine {
         ensures shows { (first : ℕ) (s : State) → IsOf first self.old s → HasTxn s txn.old → Shows (steps.Finish txn.old.session) s txn.old txn.new (as_step result) }
     {
         seats_count_together();
-        // what is put in its place is read by nobody
+        // what is put in its place is not active, so its claims count as there
         match self.seats.change_stage(tx, Stage::Decided(None)) {
             Some(Stage::Decided(pieces)) => self.finish_on(bench, txn, tx, pieces),
             _ => unreachable!(),

@@ -8,8 +8,8 @@ ghost use Rattle.meaning_system.specs.State.{State};
 ghost use Rattle.sys_core.specs.Seated.{HasTxn};
 ghost use Rattle.sys_core.specs.Sessions.{AreSeparate, IsOther};
 
-/// A step of one session, and a command on files, leave what the other sessions have of their transactions, where each session has a
-/// transaction of its own. Each step keeps that, and a state with which a run begins has it.
+/// A step of one session, and each step of none but a stop of the database, leave what the other sessions have of their transactions,
+/// where each session has a transaction of its own. Each step keeps that, and a state with which a run begins has it.
 pub fn steps_leave_other_sessions()
     ensures others { (s : State) (x : asked.Step) (v : working.Transaction) → AreSeparate s → IsOther x v.session → HasTxn s v → HasTxn (step s x).1 v }
     ensures kept { (s : State) (x : asked.Step) → AreSeparate s → AreSeparate (step s x).1 }

@@ -11,6 +11,7 @@ mod engine;
 mod finish;
 mod guard;
 mod laws;
+mod opening;
 mod prepare;
 mod refusing;
 mod roll_back;

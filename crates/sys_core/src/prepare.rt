@@ -17,7 +17,8 @@ impl Engine {
     /// The vote on the transaction of a session: what it has made is fixed, and all memory is taken that its decision, its Finish and a
     /// ROLLBACK need. Where it gives or takes a link, its branch is written to Links. It is refused NoTransaction, WrongPhase, and,
     /// where it gives or takes a link, Doomed or NoFile(path) with the first new link whose file is not there. The errors are
-    /// `Full(Area)`, `Device`, and want of memory, after which all is as it was.
+    /// `Full(Area)` and `Device`, behind which the areas are to be opened again, and want of memory, which leaves all as it was but for
+    /// room.
     pub fn prepare<B: Bench>(&mut self, bench: &mut B, txn: &mut Txn) -> Result<Answer, StepFault>
         requires ready { AreReady (journals_of self.old.owners) (B.outside bench.old) }
         requires stands { (first : ℕ) × (s : State) × IsOf first self.old s × HasTxn s txn.old }

@@ -85,7 +85,8 @@ impl Engine {
         }
     }
 
-    fn forgotten_by(&self, seat: &Seat) -> Option<Refusal>
+    // The same by what is kept of it.
+    pub(crate) fn forgotten_by(&self, seat: &Seat) -> Option<Refusal>
         ensures { result ≡ doomed_at (opening_in self.now) (Some seat.now) }
     {
         if !self.is_doomed(seat) {

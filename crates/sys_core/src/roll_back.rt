@@ -27,7 +27,7 @@ use sys_seats::{Stage, seats_count_together};
 impl Engine {
     /// ROLLBACK: the transaction ends, and the paths of its links are free. Where it is prepared and gives or takes a link, its Aborted
     /// is written. It is refused NoTransaction, and WrongPhase once it is decided. The errors are `Full(Area)` where Links has no room
-    /// for the record, and `Device`. It takes no memory.
+    /// for the record, and `Device`, behind which the areas are to be opened again. It takes no memory.
     pub fn roll_back<B: Bench>(
         &mut self,
         bench: &mut B,

@@ -4,12 +4,11 @@ ghost use Rattle.std.specs.FinMap as maps;
 ghost use Rattle.std.specs.Result.{result_err};
 ghost use Rattle.dl_areas.specs.Lists.{AreReady};
 ghost use Rattle.dl_areas.specs.Writing.{Ends};
-ghost use Rattle.dl_base.specs.declared.answer.Refusal.TheVariants as reasons;
 ghost use Rattle.fm_links.specs.Claims.{moved};
 ghost use Rattle.fm_manager.specs.Managed.{Roomier, as_writes};
 ghost use Rattle.fm_pieces.specs.Keeping.{AreThere, HasPieces};
 ghost use Rattle.meaning_areas.specs.Lists.{folds_on};
-ghost use Rattle.meaning_system.specs.Claims.{files_refusal, prepare_refusal, seen_or_zero};
+ghost use Rattle.meaning_system.specs.Claims.{files_refusal, prepare_refusal};
 ghost use Rattle.meaning_system.specs.State.{State, Txn, has_links, is_empty, moved_of};
 ghost use Rattle.meaning_system.specs.Writes.{prepared, taken_by};
 ghost use Rattle.sys_core.specs.Seated.{IsSeatOf, making_of};
@@ -21,12 +20,11 @@ ghost use Rattle.sys_seats.specs.Seats.{all_of, gives_of, votes_of};
 use crate::engine::Engine;
 use db_changes::Made;
 use dl_areas::calls_follow_one_another;
-use dl_base::{Bench, ClaimRefusal, Copied, LinkRow, List, Memory, Name, Refusal, StepFault};
+use dl_base::{Bench, Copied, LinkRow, List, Memory, Name, Refusal, StepFault};
 use dl_codec::Taken;
 use fm_links::claims_behind_steps_of_a_session;
 use fm_manager::{Manager, Pieces};
 use fm_pieces::pieces_as_they_are_made;
-use fs_files::Files;
 use meaning_history::each_step_leads_on;
 use sys_opening::Owners;
 use sys_seats::{Seat, SeatClaim, Seats, Stage, Vote, seats_count_together};
@@ -48,20 +46,22 @@ impl Engine {
         if !has_links(&seat.claim) {
             return Ok(None);
         }
-        if self.is_doomed(seat) {
-            return Ok(Some(self.doomed(&seat.claim)));
+        match self.forgotten_by(seat) {
+            Some(refusal) => Ok(Some(refusal)),
+            None => self.files_refusal(&seat.claim.takes),
         }
-        files_refusal(self.owners.manager.files(), &seat.claim.takes)
     }
 
-    // The refusal of a claim that is forgotten, with both openings.
-    fn doomed(&self, claim: &SeatClaim) -> Refusal
-        ensures { result ≡ reasons.Doomed (seen_or_zero claim.now.seen) self.now.owners.manager.links.links.opening }
+    // The refusal of the first of some links whose file is not there, if there is one.
+    fn files_refusal(&self, takes: &List<LinkRow>) -> Result<Option<Refusal>, Memory>
+        ensures { (s : State) → s.files ≡ self.now.owners.manager.files.files → IfOk result (λ why. why ≡ files_refusal s takes.now) }
     {
-        Refusal::Doomed(
-            seen_or_zero(claim.seen),
-            self.owners.manager.branches().opening(),
-        )
+        for take in takes.as_slice() {
+            if let Some(refusal) = self.file_refusal(&take.path)? {
+                return Ok(Some(refusal));
+            }
+        }
+        Ok(None)
     }
 
     // Votes for the transaction of a session, whose statements named these tables and which has made this. The errors are those of
@@ -121,28 +121,6 @@ fn is_empty(links: &List<LinkRow>) -> bool
     ensures { result ≡ is_empty links.now }
 {
     links.len() == 0
-}
-
-fn seen_or_zero(seen: Option<u32>) -> u32
-    ensures { result ≡ seen_or_zero seen }
-{
-    match seen {
-        Some(seen) => seen,
-        None => 0,
-    }
-}
-
-// The refusal of the first of some links whose file is not there, if there is one.
-fn files_refusal(files: &Files, takes: &List<LinkRow>) -> Result<Option<Refusal>, Memory>
-    ensures { (s : State) → s.files ≡ files.now.files → IfOk result (λ why. why ≡ files_refusal s takes.now) }
-{
-    for link in takes.as_slice() {
-        if files.look(&link.path).is_none() {
-            let path = link.path.copy()?;
-            return Ok(Some(Refusal::Claim(ClaimRefusal::NoFile(path))));
-        }
-    }
-    Ok(None)
 }
 
 // What is made for a vote. Behind it there is room for the commit, and for copies of the links that are given.

@@ -1,4 +1,4 @@
-use Rattle.std.proofs.Common.{true, false, Ok, refl, sym, ◌∙◌, arith}
+use Rattle.std.proofs.Common.{true, Ok, refl, sym, ◌∙◌, arith}
 use Rattle.dl_base.specs.declared.answer.Answer.TheVariants as answers
 use Rattle.dl_base.specs.declared.step.Step.TheVariants as steps
 use Rattle.sys_core.proofs.Deciding.{changes-told, commit-state, conflict-state, decides-to, nothing-ends, nothing-state, shows-decided, shows-ended}
