@@ -44,6 +44,9 @@ pub fn get_backup_record(alloc: Global, bytes: &[u8]) -> Result<Option<BackupRec
     get_whole(alloc, bytes)
 }
 
+// The fields of a table, in the order in which they lie in bytes.
+type TableFields = (Name, (u64, (List<Column>, (u64, List<(u64, List<Value>)>))));
+
 #[tactic(auto, unfolding(crate::specs::Backups::table_image))]
 impl Spelled for TableImage {
     ghost use Rattle.dl_codec.specs.Backups.{table_image};
@@ -59,11 +62,7 @@ impl Spelled for TableImage {
     }
 
     fn get(alloc: Global, bytes: &[u8]) -> Result<(TableImage, &[u8]), ReadFault> {
-        let (name, rest) = Name::get(alloc, bytes)?;
-        let (version, rest) = u64::get(alloc, rest)?;
-        let (columns, rest) = List::<Column>::get(alloc, rest)?;
-        let (next, rest) = u64::get(alloc, rest)?;
-        let (rows, rest) = List::<(u64, List<Value>)>::get(alloc, rest)?;
+        let ((name, (version, (columns, (next, rows)))), rest) = TableFields::get(alloc, bytes)?;
         let image = TableImage {
             name,
             version,

@@ -52,6 +52,9 @@ impl Spelled for Owner {
     }
 }
 
+// The fields of a file under its path, in the order in which they lie in bytes.
+type FileFields = (Path, (Owner, (Option<Owner>, Text)));
+
 #[tactic(auto, unfolding(crate::specs::Files::file_row))]
 impl Spelled for FileRow {
     ghost use Rattle.dl_codec.specs.Files.{file_row};
@@ -66,10 +69,7 @@ impl Spelled for FileRow {
     }
 
     fn get(alloc: Global, bytes: &[u8]) -> Result<(FileRow, &[u8]), ReadFault> {
-        let (path, rest) = Path::get(alloc, bytes)?;
-        let (owner, rest) = Owner::get(alloc, rest)?;
-        let (before, rest) = Option::<Owner>::get(alloc, rest)?;
-        let (content, rest) = Text::get(alloc, rest)?;
+        let ((path, (owner, (before, content))), rest) = FileFields::get(alloc, bytes)?;
         let file = File {
             owner,
             bytes: content,
@@ -78,6 +78,9 @@ impl Spelled for FileRow {
         Ok((FileRow { path, file }, rest))
     }
 }
+
+// What stands behind the tag of a change of the owner.
+type OwnerFields = (Path, (Owner, Option<Owner>));
 
 #[tactic(auto, unfolding(crate::specs::Files::file_change))]
 impl Spelled for FileChange {
@@ -115,9 +118,7 @@ impl Spelled for FileChange {
                 Ok((FileChange::Put(row), rest))
             }
             [2, rest @ ..] => {
-                let (path, rest) = Path::get(alloc, rest)?;
-                let (owner, rest) = Owner::get(alloc, rest)?;
-                let (before, rest) = Option::<Owner>::get(alloc, rest)?;
+                let ((path, (owner, before)), rest) = OwnerFields::get(alloc, rest)?;
                 Ok((FileChange::Kept(path, owner, before), rest))
             }
             _ => Err(ReadFault::Bad),

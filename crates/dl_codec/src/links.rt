@@ -73,6 +73,9 @@ impl Spelled for Taken {
     }
 }
 
+// What stands behind the tag of a Prepared.
+type PreparedFields = (u64, (List<LinkRow>, List<Taken>));
+
 #[tactic(auto, unfolding(crate::specs::Links::links_record))]
 impl Spelled for LinksRecord {
     ghost use Rattle.dl_codec.specs.Links.{links_record as layout_of_records};
@@ -113,9 +116,7 @@ impl Spelled for LinksRecord {
                 Ok((LinksRecord::Opening(number), rest))
             }
             [2, rest @ ..] => {
-                let (tx, rest) = u64::get(alloc, rest)?;
-                let (gives, rest) = List::<LinkRow>::get(alloc, rest)?;
-                let (takes, rest) = List::<Taken>::get(alloc, rest)?;
+                let ((tx, (gives, takes)), rest) = PreparedFields::get(alloc, rest)?;
                 Ok((LinksRecord::Prepared(tx, gives, takes), rest))
             }
             [3, rest @ ..] => {

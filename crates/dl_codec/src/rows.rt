@@ -73,6 +73,11 @@ impl Spelled for RowChange {
     }
 }
 
+// What stands behind the name of a table: the next row number and the rows, behind the columns where it is new.
+type KeptFields = (u64, List<RowChange>);
+
+type NewFields = (List<Column>, KeptFields);
+
 #[tactic(auto, unfolding(crate::specs::Rows::table_change, crate::specs::Rows::done))]
 impl Spelled for TableChange {
     ghost use Rattle.dl_codec.specs.Rows.{table_change};
@@ -106,20 +111,20 @@ impl Spelled for TableChange {
         match rest {
             [0, rest @ ..] => Ok((TableChange::Dropped(table), rest)),
             [1, rest @ ..] => {
-                let (columns, rest) = List::<Column>::get(alloc, rest)?;
-                let (next, rest) = u64::get(alloc, rest)?;
-                let (rows, rest) = List::<RowChange>::get(alloc, rest)?;
+                let ((columns, (next, rows)), rest) = NewFields::get(alloc, rest)?;
                 Ok((TableChange::New(table, columns, next, rows), rest))
             }
             [2, rest @ ..] => {
-                let (next, rest) = u64::get(alloc, rest)?;
-                let (rows, rest) = List::<RowChange>::get(alloc, rest)?;
+                let ((next, rows), rest) = KeptFields::get(alloc, rest)?;
                 Ok((TableChange::Kept(table, next, rows), rest))
             }
             _ => Err(ReadFault::Bad),
         }
     }
 }
+
+// What stands behind the tag of a commit.
+type CommitFields = (u64, (u64, (bool, List<TableChange>)));
 
 #[tactic(auto, unfolding(crate::specs::Rows::rows_record))]
 impl Spelled for RowsRecord {
@@ -154,10 +159,7 @@ impl Spelled for RowsRecord {
                 Ok((RowsRecord::Opening(number), rest))
             }
             [2, rest @ ..] => {
-                let (tx, rest) = u64::get(alloc, rest)?;
-                let (number, rest) = u64::get(alloc, rest)?;
-                let (branch, rest) = bool::get(alloc, rest)?;
-                let (tables, rest) = List::<TableChange>::get(alloc, rest)?;
+                let ((tx, (number, (branch, tables))), rest) = CommitFields::get(alloc, rest)?;
                 Ok((RowsRecord::Commit(tx, number, branch, tables), rest))
             }
             [3, rest @ ..] => {

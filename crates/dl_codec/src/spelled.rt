@@ -54,10 +54,9 @@ impl Spelled for u64 {
             return Err(ReadFault::Bad);
         }
         let (front, rest) = bytes.split_at(8);
-        let number = u64::from_be_bytes([
-            front[0], front[1], front[2], front[3], front[4], front[5], front[6], front[7],
-        ]);
-        Ok((number, rest))
+        let mut number = [0u8; 8];
+        number.copy_from_slice(front);
+        Ok((u64::from_be_bytes(number), rest))
     }
 }
 

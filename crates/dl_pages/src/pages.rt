@@ -201,20 +201,10 @@ impl<T: Drop> Pages<T> {
                 let middle = page.middle as usize;
                 if index <= middle {
                     let grown = page.before.inserted(alloc, index, item)?;
-                    balanced(
-                        alloc,
-                        grown,
-                        Arc::try_clone(&page.item)?,
-                        page.behind.share()?,
-                    )
+                    balanced_behind(alloc, grown, &page.item, &page.behind)
                 } else {
                     let grown = page.behind.inserted(alloc, index - middle - 1, item)?;
-                    balanced(
-                        alloc,
-                        page.before.share()?,
-                        Arc::try_clone(&page.item)?,
-                        grown,
-                    )
+                    balanced_before(alloc, &page.before, &page.item, grown)
                 }
             }
         }
@@ -233,22 +223,12 @@ impl<T: Drop> Pages<T> {
                 let middle = page.middle as usize;
                 if index < middle {
                     let side = page.before.replaced(alloc, index, item)?;
-                    page_of(
-                        alloc,
-                        side,
-                        Arc::try_clone(&page.item)?,
-                        page.behind.share()?,
-                    )
+                    page_behind(alloc, side, &page.item, &page.behind)
                 } else if index == middle {
                     page_of(alloc, page.before.share()?, item, page.behind.share()?)
                 } else {
                     let side = page.behind.replaced(alloc, index - middle - 1, item)?;
-                    page_of(
-                        alloc,
-                        page.before.share()?,
-                        Arc::try_clone(&page.item)?,
-                        side,
-                    )
+                    page_before(alloc, &page.before, &page.item, side)
                 }
             }
         }
@@ -267,22 +247,12 @@ impl<T: Drop> Pages<T> {
                 let middle = page.middle as usize;
                 if index < middle {
                     let side = page.before.removed(alloc, index)?;
-                    balanced(
-                        alloc,
-                        side,
-                        Arc::try_clone(&page.item)?,
-                        page.behind.share()?,
-                    )
+                    balanced_behind(alloc, side, &page.item, &page.behind)
                 } else if index == middle {
                     joined(alloc, &page.before, &page.behind)
                 } else {
                     let side = page.behind.removed(alloc, index - middle - 1)?;
-                    balanced(
-                        alloc,
-                        page.before.share()?,
-                        Arc::try_clone(&page.item)?,
-                        side,
-                    )
+                    balanced_before(alloc, &page.before, &page.item, side)
                 }
             }
         }
@@ -299,8 +269,7 @@ impl<T: Drop> Pages<T> {
                 match page.before.without_first(alloc)? {
                     None => Ok(Some((Arc::try_clone(&page.item)?, page.behind.share()?))),
                     Some((first, rest)) => {
-                        let item = Arc::try_clone(&page.item)?;
-                        let rest = balanced(alloc, rest, item, page.behind.share()?)?;
+                        let rest = balanced_behind(alloc, rest, &page.item, &page.behind)?;
                         Ok(Some((first, rest)))
                     }
                 }
@@ -319,8 +288,7 @@ impl<T: Drop> Pages<T> {
                 match page.behind.without_last(alloc)? {
                     None => Ok(Some((page.before.share()?, Arc::try_clone(&page.item)?))),
                     Some((rest, last)) => {
-                        let item = Arc::try_clone(&page.item)?;
-                        let rest = balanced(alloc, page.before.share()?, item, rest)?;
+                        let rest = balanced_before(alloc, &page.before, &page.item, rest)?;
                         Ok(Some((rest, last)))
                     }
                 }
@@ -390,85 +358,158 @@ fn page_of<T: Drop>(
     })
 }
 
-// What a page has, shared.
-fn parts<T: Drop>(page: &Page<T>) -> Result<(Pages<T>, Arc<T>, Pages<T>), Memory>
-    ensures { IfOk result (λ p. page.now ≡ p.0 ++ arc_value p.1 ∷ p.2) }
+// A page of what other pages keep too; `page_behind` and `page_before` are given one side of their own.
+fn shared_page<T: Drop>(
+    alloc: Global,
+    before: &Pages<T>,
+    item: &Arc<T>,
+    behind: &Pages<T>,
+) -> Result<Pages<T>, Memory>
+    ensures { IfOk result (λ made. made ≡ before.now ++ arc_value item.now ∷ behind.now) }
 {
-    Ok((
-        page.before.share()?,
-        Arc::try_clone(&page.item)?,
-        page.behind.share()?,
-    ))
+    page_behind(alloc, before.share()?, item, behind)
 }
 
-// The same list in pages whose sides are about as long as each other, where one item came or went.
-fn balanced<T: Drop>(
+fn page_behind<T: Drop>(
     alloc: Global,
     before: Pages<T>,
-    item: Arc<T>,
+    item: &Arc<T>,
+    behind: &Pages<T>,
+) -> Result<Pages<T>, Memory>
+    ensures { IfOk result (λ made. made ≡ before ++ arc_value item.now ∷ behind.now) }
+{
+    page_of(alloc, before, Arc::try_clone(item)?, behind.share()?)
+}
+
+fn page_before<T: Drop>(
+    alloc: Global,
+    before: &Pages<T>,
+    item: &Arc<T>,
     behind: Pages<T>,
 ) -> Result<Pages<T>, Memory>
-    ensures { IfOk result (λ made. made ≡ before ++ arc_value item ∷ behind) }
+    ensures { IfOk result (λ made. made ≡ before.now ++ arc_value item.now ∷ behind) }
+{
+    page_of(alloc, before.share()?, Arc::try_clone(item)?, behind)
+}
+
+// The same list in pages whose sides are about as long as each other, where one item came or went before the item in the middle.
+fn balanced_behind<T: Drop>(
+    alloc: Global,
+    before: Pages<T>,
+    item: &Arc<T>,
+    behind: &Pages<T>,
+) -> Result<Pages<T>, Memory>
+    ensures { IfOk result (λ made. made ≡ before ++ arc_value item.now ∷ behind.now) }
 {
     if behind.len() / 3 > before.len() {
-        lean_behind(alloc, before, item, behind)
+        lean_behind(alloc, &before, item, behind)
     } else if before.len() / 3 > behind.len() {
-        lean_before(alloc, before, item, behind)
+        lean_before(alloc, &before, item, behind)
     } else {
-        page_of(alloc, before, item, behind)
+        page_behind(alloc, before, item, behind)
     }
 }
 
-// The same list where too much is behind: a single rotation, or a double one where the inner side is the longer one.
-fn lean_behind<T: Drop>(
+// The same where one came or went behind it.
+fn balanced_before<T: Drop>(
     alloc: Global,
-    before: Pages<T>,
-    item: Arc<T>,
+    before: &Pages<T>,
+    item: &Arc<T>,
     behind: Pages<T>,
 ) -> Result<Pages<T>, Memory>
-    ensures { IfOk result (λ made. made ≡ before ++ arc_value item ∷ behind) }
+    ensures { IfOk result (λ made. made ≡ before.now ++ arc_value item.now ∷ behind) }
+{
+    if behind.len() / 3 > before.len() {
+        lean_behind(alloc, before, item, &behind)
+    } else if before.len() / 3 > behind.len() {
+        lean_before(alloc, before, item, &behind)
+    } else {
+        page_before(alloc, before, item, behind)
+    }
+}
+
+// The same list where too much is behind: a single rotation, or a double one where the inner side is the longer one. Rotations borrow
+// all that they turn: an owned part would have to be dropped on each way out.
+fn lean_behind<T: Drop>(
+    alloc: Global,
+    before: &Pages<T>,
+    item: &Arc<T>,
+    behind: &Pages<T>,
+) -> Result<Pages<T>, Memory>
+    ensures { IfOk result (λ made. made ≡ before.now ++ arc_value item.now ∷ behind.now) }
 {
     let Some(page) = &behind.top else {
-        return page_of(alloc, before, item, behind);
+        return shared_page(alloc, before, item, behind);
     };
-    let (inner, next, outer) = parts(page)?;
-    if inner.len() - inner.len() / 2 <= outer.len() {
-        let side = page_of(alloc, before, item, inner)?;
-        return page_of(alloc, side, next, outer);
+    let page: &Page<T> = page;
+    match &page.before.top {
+        Some(inner) if is_longer(&page.before, &page.behind) => {
+            twice_behind(alloc, before, item, inner, &page.item, &page.behind)
+        }
+        _ => {
+            let side = shared_page(alloc, before, item, &page.before)?;
+            page_behind(alloc, side, &page.item, &page.behind)
+        }
     }
-    let Some(page) = &inner.top else {
-        return page_of(alloc, before, item, behind);
-    };
-    let (front, middle, back) = parts(page)?;
-    let side = page_of(alloc, before, item, front)?;
-    let other = page_of(alloc, back, next, outer)?;
-    page_of(alloc, side, middle, other)
+}
+
+fn twice_behind<T: Drop>(
+    alloc: Global,
+    before: &Pages<T>,
+    item: &Arc<T>,
+    inner: &Page<T>,
+    next: &Arc<T>,
+    outer: &Pages<T>,
+) -> Result<Pages<T>, Memory>
+    ensures { IfOk result (λ made. made ≡ before.now ++ arc_value item.now ∷ (inner.now ++ arc_value next.now ∷ outer.now)) }
+{
+    let side = shared_page(alloc, before, item, &inner.before)?;
+    let other = shared_page(alloc, &inner.behind, next, outer)?;
+    page_behind(alloc, side, &inner.item, &other)
 }
 
 // The mirror image of `lean_behind`.
 fn lean_before<T: Drop>(
     alloc: Global,
-    before: Pages<T>,
-    item: Arc<T>,
-    behind: Pages<T>,
+    before: &Pages<T>,
+    item: &Arc<T>,
+    behind: &Pages<T>,
 ) -> Result<Pages<T>, Memory>
-    ensures { IfOk result (λ made. made ≡ before ++ arc_value item ∷ behind) }
+    ensures { IfOk result (λ made. made ≡ before.now ++ arc_value item.now ∷ behind.now) }
 {
     let Some(page) = &before.top else {
-        return page_of(alloc, before, item, behind);
+        return shared_page(alloc, before, item, behind);
     };
-    let (outer, next, inner) = parts(page)?;
-    if inner.len() - inner.len() / 2 <= outer.len() {
-        let side = page_of(alloc, inner, item, behind)?;
-        return page_of(alloc, outer, next, side);
+    let page: &Page<T> = page;
+    match &page.behind.top {
+        Some(inner) if is_longer(&page.behind, &page.before) => {
+            twice_before(alloc, &page.before, &page.item, inner, item, behind)
+        }
+        _ => {
+            let side = shared_page(alloc, &page.behind, item, behind)?;
+            page_before(alloc, &page.before, &page.item, side)
+        }
     }
-    let Some(page) = &inner.top else {
-        return page_of(alloc, before, item, behind);
-    };
-    let (front, middle, back) = parts(page)?;
-    let side = page_of(alloc, outer, next, front)?;
-    let other = page_of(alloc, back, item, behind)?;
-    page_of(alloc, side, middle, other)
+}
+
+fn twice_before<T: Drop>(
+    alloc: Global,
+    outer: &Pages<T>,
+    next: &Arc<T>,
+    inner: &Page<T>,
+    item: &Arc<T>,
+    behind: &Pages<T>,
+) -> Result<Pages<T>, Memory>
+    ensures { IfOk result (λ made. made ≡ (outer.now ++ arc_value next.now ∷ inner.now) ++ arc_value item.now ∷ behind.now) }
+{
+    let side = shared_page(alloc, outer, next, &inner.before)?;
+    let other = shared_page(alloc, &inner.behind, item, behind)?;
+    page_behind(alloc, side, &inner.item, &other)
+}
+
+// Whether the inner side of a page that leans is so much longer than the outer one that it is to be parted.
+fn is_longer<T>(inner: &Pages<T>, outer: &Pages<T>) -> bool {
+    outer.len() < inner.len() - inner.len() / 2
 }
 
 // The items of one list, and behind them those of another.
@@ -477,12 +518,12 @@ fn joined<T: Drop>(alloc: Global, before: &Pages<T>, behind: &Pages<T>) -> Resul
 {
     if before.len() > behind.len() {
         match before.without_last(alloc)? {
-            Some((rest, last)) => balanced(alloc, rest, last, behind.share()?),
+            Some((rest, last)) => balanced_behind(alloc, rest, &last, behind),
             None => behind.share(),
         }
     } else {
         match behind.without_first(alloc)? {
-            Some((first, rest)) => balanced(alloc, before.share()?, first, rest),
+            Some((first, rest)) => balanced_before(alloc, before, &first, rest),
             None => before.share(),
         }
     }

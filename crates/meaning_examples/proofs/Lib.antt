@@ -9,3 +9,8 @@ pub mod Options
 pub mod Tables
 pub mod Changes
 pub mod Expressions
+pub mod Digits
+pub mod Names
+pub mod Tokens
+pub mod Datalinks
+pub mod Areas

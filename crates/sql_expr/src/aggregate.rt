@@ -1,5 +1,5 @@
 // What aggregates make of the values of rows, one after the other.
-ghost use Rattle.std.specs.Prelude.{◌≡◌};
+ghost use Rattle.std.specs.Prelude.{◌≡◌, false};
 ghost use Rattle.std.specs.Ordering.{is_gt, is_lt};
 ghost use Rattle.meaning_sql.specs.Operators as meaning;
 
@@ -19,29 +19,41 @@ pub fn gather(fold: Fold, x: Value, y: Value) -> Result<Value, SqlFault>
     }
 }
 
+#[tactic(auto, unfolding(meaning_sql::specs::Operators::is_null))]
 fn added(x: Value, y: Value) -> Result<Value, SqlFault>
     ensures { result ≡ meaning.added x y }
 {
+    if is_null(&x) {
+        drop(x);
+        return Ok(y);
+    }
+    if is_null(&y) {
+        drop(y);
+        return Ok(x);
+    }
+    let both = total(&x, &y);
+    drop(x);
+    drop(y);
+    both
+}
+
+// The sum of two values neither of which is NULL.
+#[tactic(auto, unfolding(meaning_sql::specs::Operators::is_null))]
+fn total(x: &Value, y: &Value) -> Result<Value, SqlFault>
+    requires left { meaning.is_null x.now ≡ false }
+    requires right { meaning.is_null y.now ≡ false }
+    ensures { result ≡ meaning.added x.now y.now }
+{
     match x {
-        Value::Null => Ok(y),
         Value::Int(a) => match y {
-            Value::Null => Ok(Value::Int(a)),
-            Value::Int(b) => sum(a, b),
+            Value::Int(b) => sum(*a, *b),
             Value::Text(_) => Ok(Value::Null),
             Value::Link(_) => Ok(Value::Null),
+            Value::Null => Ok(Value::Null),
         },
-        Value::Text(text) => match y {
-            Value::Null => Ok(Value::Text(text)),
-            Value::Int(_) => Ok(Value::Null),
-            Value::Text(_) => Ok(Value::Null),
-            Value::Link(_) => Ok(Value::Null),
-        },
-        Value::Link(link) => match y {
-            Value::Null => Ok(Value::Link(link)),
-            Value::Int(_) => Ok(Value::Null),
-            Value::Text(_) => Ok(Value::Null),
-            Value::Link(_) => Ok(Value::Null),
-        },
+        Value::Text(_) => Ok(Value::Null),
+        Value::Link(_) => Ok(Value::Null),
+        Value::Null => Ok(Value::Null),
     }
 }
 

@@ -1,15 +1,17 @@
 // The type of an expression, or the first breach.
-ghost use Rattle.std.specs.Prelude.{◌≡◌, is_err, true, OnErr};
-ghost use Rattle.meaning_sql.specs.Faults.{Computes};
+ghost use Rattle.std.specs.Prelude.{◌≡◌, ◌&&◌, is_err, true, OnErr};
+ghost use Rattle.meaning_sql.specs.Faults as faults;
+ghost use Rattle.meaning_sql.specs.Faults.{Computes, Follows};
 ghost use Rattle.meaning_sql.specs.Types.{type_of};
 ghost use Rattle.meaning_sql.specs.Types as meaning;
+ghost use Rattle.sql_expr.specs.Operands.{RefusesAs, suits};
 
 use crate::columns::{kind_at, place_of};
 use crate::types::{
-    aggregate_type, binary_type, is_cell, is_int, is_link, is_text, is_truth, kind_type,
-    takes_aggregate, takes_column, typed,
+    Operand, aggregate_type, binary_type, is_text, kind_type, suits, takes_aggregate, takes_column,
+    typed,
 };
-use dl_base::{Expr, Ref, SqlFault};
+use dl_base::{Expr, Fold, Op, Ref, SqlFault};
 use meaning_sql::{AggregateScope, Columns, SqlType};
 
 /// The type of an expression where columns and aggregates may stand. The first breach is the answer, operands from left to right
@@ -34,49 +36,103 @@ pub fn check_in(expr: &Expr, columns: &Columns, scope: &AggregateScope) -> Resul
         Expr::Null => Ok(SqlType::Null),
         Expr::Column(column) => column_type(columns, column, scope),
         Expr::Not(inner) => {
-            let t = check_in(inner.get(), columns, scope)?;
-            typed(is_truth(t), SqlType::Truth)
+            let t = check_in(inner.get(), columns, scope);
+            one_operand(t, Operand::Truth, SqlType::Truth)
         }
         Expr::Minus(inner) => {
-            let t = check_in(inner.get(), columns, scope)?;
-            typed(is_int(t), SqlType::Int)
+            let t = check_in(inner.get(), columns, scope);
+            one_operand(t, Operand::Int, SqlType::Int)
         }
-        Expr::Binary(op, left, right) => {
-            let t = check_in(left.get(), columns, scope)?;
-            let u = check_in(right.get(), columns, scope)?;
-            binary_type(*op, t, u)
-        }
+        Expr::Binary(op, left, right) => match check_in(left.get(), columns, scope) {
+            Err(fault) => Err(fault),
+            Ok(t) => right_side(*op, t, check_in(right.get(), columns, scope)),
+        },
         Expr::IsNull(inner, _) => {
-            let t = check_in(inner.get(), columns, scope)?;
-            typed(is_cell(t), SqlType::Truth)
+            let t = check_in(inner.get(), columns, scope);
+            one_operand(t, Operand::Cell, SqlType::Truth)
         }
         Expr::CountAll => typed(takes_aggregate(scope), SqlType::Int),
         Expr::Aggregate(fold, inner) => {
             if !takes_aggregate(scope) {
                 return Err(SqlFault::TypeFault);
             }
-            let t = check_in(inner.get(), columns, &AggregateScope::Row)?;
-            aggregate_type(*fold, t)
+            let t = check_in(inner.get(), columns, &AggregateScope::Row);
+            folded(*fold, t)
         }
         Expr::Dlvalue1(location) => {
-            let t = check_in(location.get(), columns, scope)?;
-            typed(is_text(t), SqlType::Link)
+            let t = check_in(location.get(), columns, scope);
+            one_operand(t, Operand::Text, SqlType::Link)
         }
-        Expr::Dlvalue2(location, linktype) => {
-            let t = check_in(location.get(), columns, scope)?;
-            let u = check_in(linktype.get(), columns, scope)?;
-            typed(is_text(t) && is_text(u), SqlType::Link)
-        }
+        Expr::Dlvalue2(location, linktype) => match check_in(location.get(), columns, scope) {
+            Err(fault) => Err(fault),
+            Ok(t) => {
+                let u = check_in(linktype.get(), columns, scope);
+                texts(true, is_text(t), u)
+            }
+        },
         Expr::Dlvalue3(location, linktype, comment) => {
-            let t = check_in(location.get(), columns, scope)?;
-            let u = check_in(linktype.get(), columns, scope)?;
-            let v = check_in(comment.get(), columns, scope)?;
-            typed(is_text(t) && is_text(u) && is_text(v), SqlType::Link)
+            match check_in(location.get(), columns, scope) {
+                Err(fault) => Err(fault),
+                Ok(t) => match check_in(linktype.get(), columns, scope) {
+                    Err(fault) => Err(fault),
+                    Ok(u) => {
+                        let v = check_in(comment.get(), columns, scope);
+                        texts(is_text(t), is_text(u), v)
+                    }
+                },
+            }
         }
         Expr::Access(_, inner) => {
-            let t = check_in(inner.get(), columns, scope)?;
-            typed(is_link(t), SqlType::Text)
+            let t = check_in(inner.get(), columns, scope);
+            one_operand(t, Operand::Link, SqlType::Text)
         }
+    }
+}
+
+// What the last operand gave is handed on whole, a refusal too: each of these takes the step of one operator on it.
+
+fn one_operand(
+    operand: Result<SqlType, SqlFault>,
+    wanted: Operand,
+    gives: SqlType,
+) -> Result<SqlType, SqlFault>
+    ensures of_type { Follows operand (λ t. faults.typed (suits wanted t) gives) result }
+    ensures accepted { RefusesAs operand (λ t. faults.typed (suits wanted t) gives) result }
+{
+    match operand {
+        Ok(t) => typed(suits(wanted, t), gives),
+        Err(fault) => Err(fault),
+    }
+}
+
+fn right_side(op: Op, t: SqlType, right: Result<SqlType, SqlFault>) -> Result<SqlType, SqlFault>
+    ensures of_type { Follows right (meaning.binary_type op t) result }
+    ensures accepted { RefusesAs right (meaning.binary_type op t) result }
+{
+    match right {
+        Ok(u) => binary_type(op, t, u),
+        Err(fault) => Err(fault),
+    }
+}
+
+fn folded(fold: Fold, operand: Result<SqlType, SqlFault>) -> Result<SqlType, SqlFault>
+    ensures of_type { Follows operand (meaning.aggregate_type fold) result }
+    ensures accepted { RefusesAs operand (meaning.aggregate_type fold) result }
+{
+    match operand {
+        Ok(t) => aggregate_type(fold, t),
+        Err(fault) => Err(fault),
+    }
+}
+
+// The last of the operands of DLVALUE, where two tests have been made before it.
+fn texts(first: bool, second: bool, last: Result<SqlType, SqlFault>) -> Result<SqlType, SqlFault>
+    ensures of_type { Follows last (λ t. faults.typed (first && second && meaning.is_text t) SqlType.Link) result }
+    ensures accepted { RefusesAs last (λ t. faults.typed (first && second && meaning.is_text t) SqlType.Link) result }
+{
+    match last {
+        Ok(t) => typed(first && second && is_text(t), SqlType::Link),
+        Err(fault) => Err(fault),
     }
 }
 

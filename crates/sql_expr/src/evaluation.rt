@@ -171,26 +171,52 @@ fn column_value(row: &Row, columns: &Columns, column: &Ref) -> Result<Value, Sql
 fn negation(x: Result<Value, SqlFault>) -> Result<Value, SqlFault>
     ensures { Follows x (λ v. Ok (meant.of_truth (meant.not3 (meant.truth_of v)))) result }
 {
-    Ok(of_truth(not3(truth_of(&x?))))
+    let x = x?;
+    let truth = not3(truth_of(&x));
+    drop(x);
+    Ok(of_truth(truth))
 }
 
 fn opposite_of(x: Result<Value, SqlFault>) -> Result<Value, SqlFault>
     ensures { Follows x meant.negated result }
 {
-    negated(&x?)
+    match x {
+        Ok(x) => {
+            let made = negated(&x);
+            drop(x);
+            made
+        }
+        Err(fault) => Err(fault),
+    }
 }
 
 fn nullness(x: Result<Value, SqlFault>, is: bool) -> Result<Value, SqlFault>
     ensures { Follows x (λ v. Ok (meant.of_truth (Option.Some (if is then meant.is_null v else not (meant.is_null v))))) result }
 {
-    let null = is_null(&x?);
-    Ok(of_truth(Some(if is { null } else { !null })))
+    match x {
+        Ok(x) => {
+            let null = is_null(&x);
+            Ok(of_truth(Some(if is { null } else { !null })))
+        }
+        Err(fault) => Err(fault),
+    }
 }
 
 fn after(op: Op, x: Value, y: Result<Value, SqlFault>) -> Result<Value, SqlFault>
     ensures { Follows y (λ b. meant.binary op x (Ok b)) result }
 {
-    binary(op, &x, &y?)
+    match y {
+        Ok(y) => {
+            let made = binary(op, &x, &y);
+            drop(x);
+            drop(y);
+            made
+        }
+        Err(fault) => {
+            drop(x);
+            Err(fault)
+        }
+    }
 }
 
 fn count(group: &[Row]) -> i64
@@ -203,13 +229,26 @@ fn count(group: &[Row]) -> i64
 fn next_of(fold: Fold, x: Value, y: Result<Value, SqlFault>) -> Result<Value, SqlFault>
     ensures { Follows y (meant.gather fold x) result }
 {
-    gather(fold, x, y?)
+    match y {
+        Ok(y) => gather(fold, x, y),
+        Err(fault) => {
+            drop(x);
+            Err(fault)
+        }
+    }
 }
 
 fn linked1(alloc: Global, context: &Context, x: Result<Value, SqlFault>) -> Result<Value, SqlFault>
     ensures { Follows x (λ a. links_meant.datalink context.entry.now.server a Value.Null Value.Null) result }
 {
-    datalink(alloc, &context.server, &x?, &Value::Null, &Value::Null)
+    match x {
+        Ok(x) => {
+            let made = datalink(alloc, &context.server, &x, &Value::Null, &Value::Null);
+            drop(x);
+            made
+        }
+        Err(fault) => Err(fault),
+    }
 }
 
 fn linked2(
@@ -220,7 +259,18 @@ fn linked2(
 ) -> Result<Value, SqlFault>
     ensures { Follows y (λ b. links_meant.datalink context.entry.now.server x b Value.Null) result }
 {
-    datalink(alloc, &context.server, &x, &y?, &Value::Null)
+    match y {
+        Ok(y) => {
+            let made = datalink(alloc, &context.server, &x, &y, &Value::Null);
+            drop(x);
+            drop(y);
+            made
+        }
+        Err(fault) => {
+            drop(x);
+            Err(fault)
+        }
+    }
 }
 
 fn linked3(
@@ -232,7 +282,20 @@ fn linked3(
 ) -> Result<Value, SqlFault>
     ensures { Follows z (links_meant.datalink context.entry.now.server x y) result }
 {
-    datalink(alloc, &context.server, &x, &y, &z?)
+    match z {
+        Ok(z) => {
+            let made = datalink(alloc, &context.server, &x, &y, &z);
+            drop(x);
+            drop(y);
+            drop(z);
+            made
+        }
+        Err(fault) => {
+            drop(x);
+            drop(y);
+            Err(fault)
+        }
+    }
 }
 
 fn part_of(
@@ -244,7 +307,17 @@ fn part_of(
 ) -> Result<Value, SqlFault>
     ensures { (under : Option Options) → Computes (λ v. v) options (Ok under) → Computes (λ v. v) result (Ok (links_meant.accessed context.entry.now under part x)) }
 {
-    accessed(alloc, context, options?, part, &x)
+    match options {
+        Ok(under) => {
+            let made = accessed(alloc, context, under, part, &x);
+            drop(x);
+            made
+        }
+        Err(fault) => {
+            drop(x);
+            Err(fault)
+        }
+    }
 }
 
 // The options of the column that an expression is, if it is one under link control.
@@ -258,9 +331,6 @@ fn under(expr: &Expr, columns: &Columns) -> Result<Option<Options>, SqlFault>
             Err(SqlFault::Memory) => Err(SqlFault::Memory),
             Err(_) => Ok(None),
         },
-        Expr::Number(_) | Expr::Literal(_) | Expr::Null | Expr::CountAll => Ok(None),
-        Expr::Not(_) | Expr::Minus(_) | Expr::IsNull(_, _) | Expr::Aggregate(_, _) => Ok(None),
-        Expr::Binary(_, _, _) | Expr::Access(_, _) => Ok(None),
-        Expr::Dlvalue1(_) | Expr::Dlvalue2(_, _) | Expr::Dlvalue3(_, _, _) => Ok(None),
+        _ => Ok(None),
     }
 }

@@ -3,6 +3,7 @@ ghost use Rattle.std.specs.Prelude.{◌≡◌, ◌==◌};
 ghost use Rattle.std.specs.List.{list_any};
 ghost use Rattle.meaning_sql.specs.Faults as faults;
 ghost use Rattle.meaning_sql.specs.Types as meaning;
+ghost use Rattle.sql_expr.specs.Operands.{suits};
 
 use dl_base::{Fold, Kind, Op, SqlFault};
 use meaning_sql::{AggregateScope, SqlType};
@@ -45,6 +46,33 @@ pub(crate) fn is_cell(t: SqlType) -> bool
     ensures { result ≡ meaning.is_cell t }
 {
     is_int(t) || is_text(t) || is_link(t)
+}
+
+/// What an operand has to be.
+#[derive(Clone, Copy)]
+pub enum Operand {
+    /// A truth.
+    Truth,
+    /// INTEGER.
+    Int,
+    /// VARCHAR.
+    Text,
+    /// DATALINK.
+    Link,
+    /// What a cell may be.
+    Cell,
+}
+
+pub(crate) fn suits(wanted: Operand, t: SqlType) -> bool
+    ensures { result ≡ suits wanted t }
+{
+    match wanted {
+        Operand::Truth => is_truth(t),
+        Operand::Int => is_int(t),
+        Operand::Text => is_text(t),
+        Operand::Link => is_link(t),
+        Operand::Cell => is_cell(t),
+    }
 }
 
 pub(crate) fn binary_type(op: Op, t: SqlType, u: SqlType) -> Result<SqlType, SqlFault>

@@ -1,4 +1,6 @@
 //! Expressions from terminals, over a stack of what is still open.
+//!
+//! Where an expression ends, `drop` is written: what would be let go without a word is proved variant by variant at each such place.
 
 ghost use Rattle.std.specs.Prelude.{◌≡◌, ◌∷◌, IfOk, None, Some};
 ghost use Rattle.dl_base.specs.declared.statement.Expr as expr;
@@ -77,8 +79,19 @@ fn binds(frame: &Frame, low: u8) -> bool
 fn boxed(alloc: Global, first: Expr, second: Expr) -> Result<(Boxed<Expr>, Boxed<Expr>), Memory>
     ensures { IfOk result (λ r. (r.0 ≡ first) × (r.1 ≡ second)) }
 {
-    let first = Boxed::new(alloc, first)?;
-    Ok((first, Boxed::new(alloc, second)?))
+    match Boxed::new(alloc, first) {
+        Ok(first) => match Boxed::new(alloc, second) {
+            Ok(second) => Ok((first, second)),
+            Err(_) => {
+                drop(first);
+                Err(Memory)
+            }
+        },
+        Err(_) => {
+            drop(second);
+            Err(Memory)
+        }
+    }
 }
 
 // What a parenthesis that closes makes of the operand before it.
@@ -101,8 +114,20 @@ fn enclosed(alloc: Global, opening: Opening, last: Expr) -> Result<Expr, Memory>
 fn dlvalue3(alloc: Global, first: Expr, second: Expr, third: Expr) -> Result<Expr, Memory>
     ensures { IfOk result (λ e. e ≡ expr.Dlvalue3 first second third) }
 {
-    let (first, second) = boxed(alloc, first, second)?;
-    Ok(Expr::Dlvalue3(first, second, Boxed::new(alloc, third)?))
+    match Boxed::new(alloc, first) {
+        Ok(first) => match boxed(alloc, second, third) {
+            Ok((second, third)) => Ok(Expr::Dlvalue3(first, second, third)),
+            Err(memory) => {
+                drop(first);
+                Err(memory)
+            }
+        },
+        Err(_) => {
+            drop(second);
+            drop(third);
+            Err(Memory)
+        }
+    }
 }
 
 // What a frame makes of the operand after it.
@@ -137,10 +162,21 @@ fn reduce(alloc: Global, frames: &mut Vec<Frame>, low: u8, last: Expr) -> Result
 }
 
 // What is still open and the operand behind it are let go.
-fn refuse(_stack: Stack, _last: Expr) -> Result<Step, Memory>
+fn refuse(stack: Stack, last: Expr) -> Result<Step, Memory>
     ensures { IfOk result (λ s. move_of s ≡ machine.Refuse) }
 {
+    drop(stack);
+    drop(last);
     Ok(Step::Refuse)
+}
+
+// A fourth argument of DLVALUE.
+fn fourth(stack: Stack, first: Expr, second: Expr, third: Expr) -> Result<Step, Memory>
+    ensures { IfOk result (λ s. move_of s ≡ machine.Refuse) }
+{
+    drop(first);
+    drop(second);
+    refuse(stack, third)
 }
 
 // One more frame.
@@ -227,7 +263,7 @@ fn operator(alloc: Global, mut stack: Stack, last: Expr, bound: u8, op: Op) -> R
         stack.operators += 1;
         push(stack, Frame::Infix(op, value))
     } else {
-        Ok(Step::Refuse)
+        refuse(stack, value)
     }
 }
 
@@ -241,7 +277,7 @@ fn ask(alloc: Global, mut stack: Stack, last: Expr, bound: u8) -> Result<Step, M
         stack.operators += 1;
         Ok(Step::Go(Reading::IsDue(stack, value)))
     } else {
-        Ok(Step::Refuse)
+        refuse(stack, value)
     }
 }
 
@@ -256,7 +292,7 @@ fn close(alloc: Global, mut stack: Stack, last: Expr, bound: u8) -> Result<Step,
         return Ok(Step::Stop(value));
     }
     let Some(frame) = stack.frames.pop() else {
-        return Ok(Step::Refuse);
+        return refuse(stack, value);
     };
     match frame {
         Frame::Opened(opening) => {
@@ -266,7 +302,10 @@ fn close(alloc: Global, mut stack: Stack, last: Expr, bound: u8) -> Result<Step,
         }
         Frame::Negation => refuse(stack, value),
         Frame::Sign => refuse(stack, value),
-        Frame::Infix(_, _) => refuse(stack, value),
+        Frame::Infix(_, before) => {
+            drop(before);
+            refuse(stack, value)
+        }
     }
 }
 
@@ -281,7 +320,7 @@ fn argument(stack: Stack, opening: Opening, value: Expr) -> Result<Step, Memory>
         Opening::Group => refuse(stack, value),
         Opening::Aggregate(_) => refuse(stack, value),
         Opening::Access(_) => refuse(stack, value),
-        Opening::Dlvalue3(_, _) => refuse(stack, value),
+        Opening::Dlvalue3(first, second) => fourth(stack, first, second, value),
     }
 }
 
@@ -296,13 +335,16 @@ fn pass(alloc: Global, mut stack: Stack, last: Expr, bound: u8) -> Result<Step, 
         return Ok(Step::Stop(value));
     }
     let Some(frame) = stack.frames.pop() else {
-        return Ok(Step::Refuse);
+        return refuse(stack, value);
     };
     match frame {
         Frame::Opened(opening) => argument(stack, opening, value),
         Frame::Negation => refuse(stack, value),
         Frame::Sign => refuse(stack, value),
-        Frame::Infix(_, _) => refuse(stack, value),
+        Frame::Infix(_, before) => {
+            drop(before);
+            refuse(stack, value)
+        }
     }
 }
 
@@ -314,7 +356,7 @@ fn leave(alloc: Global, mut stack: Stack, last: Expr) -> Result<Step, Memory>
     if stack.parentheses == 0 {
         Ok(Step::Stop(value))
     } else {
-        Ok(Step::Refuse)
+        refuse(stack, value)
     }
 }
 
@@ -408,6 +450,7 @@ fn call(alloc: Global, mut stack: Stack, name: Name) -> Result<Step, Memory>
                 stack.parentheses += 1;
                 push(stack, Frame::Opened(opening))
             } else {
+                drop(opening);
                 Ok(Step::Refuse)
             }
         }
@@ -522,6 +565,9 @@ pub fn end(alloc: Global, reading: Reading) -> Result<Step, Memory>
     match reading {
         Reading::After(stack, last, _) => leave(alloc, stack, last),
         Reading::Named(stack, name) => leave(alloc, stack, column(None, name)),
-        _ => Ok(Step::Refuse),
+        other => {
+            drop(other);
+            Ok(Step::Refuse)
+        }
     }
 }

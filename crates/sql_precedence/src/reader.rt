@@ -33,7 +33,11 @@ pub fn expression(
     let at = from.max(terminals.len());
     match end(alloc, reading)? {
         Step::Stop(value) => Ok((value, at)),
-        Step::Go(_) => Err(Refused::Syntax(at)),
+        Step::Go(more) => {
+            // Cheaper to prove than what goes on being let go without a word.
+            drop(more);
+            Err(Refused::Syntax(at))
+        }
         Step::Refuse => Err(Refused::Syntax(at)),
     }
 }

@@ -8,7 +8,7 @@ use dl_base::Op;
 use sql_grammar::Symbol;
 
 /// What a symbol is to an expression.
-#[derive(Clone, Copy, Debug, PartialEq, Eq)]
+#[derive(Clone, Copy)]
 pub enum Role {
     Operator(Op),
     Not,

@@ -1,8 +1,9 @@
-// SELECT.
+// SELECT. Where an expression ends, `drop` is written: what would be let go without a word is proved variant by variant
+// at each such place.
 ghost use Rattle.std.specs.Prelude.{◌≡◌, ◌++◌, ◌∷◌, IfOk, map};
 ghost use Rattle.sql_grammar.specs.declared.symbol.Symbol.TheVariants as symbol;
 ghost use Rattle.sql_grammar.specs.declared.token.Token.TheVariants as token;
-ghost use Rattle.sql_grammar.specs.Readers.{one_at, maybe_at};
+ghost use Rattle.sql_grammar.specs.Readers.{one_at, maybe_at, then_at};
 ghost use Rattle.sql_grammar.specs.Statements.{key_of, conditions_of, Following};
 ghost use Rattle.sql_grammar.specs.Reading.{name_at, item_at, items_at, alias_at, source_at, join_at, joined_at, sources_at, ref_at, group_at, direction_at, key_at, order_at, from_at, select_at};
 ghost use Rattle.sql_precedence.specs.Results.{AnswersReading};
@@ -32,8 +33,13 @@ pub fn item(alloc: Global, terminals: &[Terminal], at: usize) -> Result<(Item, u
     ensures { AnswersReading result (item_at terminals.now at) }
 {
     let (expr, at) = expression(alloc, terminals, at)?;
-    let (alias, at) = item_alias(terminals, at)?;
-    Ok((Item { expr, alias }, at))
+    match item_alias(terminals, at) {
+        Ok((alias, at)) => Ok((Item { expr, alias }, at)),
+        Err(refused) => {
+            drop(expr);
+            Err(refused)
+        }
+    }
 }
 
 // * | item {, item}
@@ -210,6 +216,19 @@ fn order(alloc: Global, terminals: &[Terminal], at: usize) -> Result<(List<Key>,
     commas::<Key>(alloc, terminals, at)
 }
 
+// [GROUP BY ref {, ref}] [ORDER BY key {, key}]
+fn grouping(
+    alloc: Global,
+    terminals: &[Terminal],
+    at: usize,
+) -> Result<((List<Ref>, List<Key>), usize), Refused>
+    ensures { AnswersReading result (then_at group_at order_at terminals.now at) }
+{
+    let (group, at) = group(alloc, terminals, at)?;
+    let (order, at) = order(alloc, terminals, at)?;
+    Ok(((group, order), at))
+}
+
 // The sources, and the conditions of those that have one.
 fn parted(
     alloc: Global,
@@ -240,17 +259,23 @@ pub fn select(alloc: Global, terminals: &[Terminal], at: usize) -> Result<(Stmt,
     let (items, at) = items(alloc, terminals, at)?;
     let at = expect(terminals, at, Symbol::From)?;
     let ((first, more), at) = sources(alloc, terminals, at)?;
-    let (filter, at) = filter(alloc, terminals, at)?;
-    let (group, at) = group(alloc, terminals, at)?;
-    let (order, at) = order(alloc, terminals, at)?;
     let (from, conditions) = parted(alloc, first, more)?;
-    let select = Select {
-        items,
-        from,
-        conditions,
-        filter,
-        group,
-        order,
-    };
-    Ok((Stmt::Select(select), at))
+    let (filter, at) = filter(alloc, terminals, at)?;
+    match grouping(alloc, terminals, at) {
+        Ok(((group, order), at)) => {
+            let select = Select {
+                items,
+                from,
+                conditions,
+                filter,
+                group,
+                order,
+            };
+            Ok((Stmt::Select(select), at))
+        }
+        Err(refused) => {
+            drop(filter);
+            Err(refused)
+        }
+    }
 }

@@ -58,6 +58,8 @@ pub fn whole(alloc: Global, terminals: &[Terminal]) -> Result<Stmt, Refused>
 {
     let (stmt, at) = statement(alloc, terminals, 0)?;
     if at < terminals.len() {
+        // Cheaper to prove than a statement that is let go without a word.
+        drop(stmt);
         Err(Refused::Syntax(at))
     } else {
         Ok(stmt)

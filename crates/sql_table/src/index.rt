@@ -51,7 +51,6 @@ pub(crate) fn without_marks<K: Ordered>(
 
 /// The index with other marks under a number. Where they are equal to those that it has there, it is the same index, and no page is
 /// copied.
-#[tactic(auto, using(crate::proofs::Marking::other_moved))]
 pub(crate) fn with_other_marks<K: Ordered>(
     alloc: Global,
     index: &Pages<(K, u64)>,

@@ -7,7 +7,7 @@ ghost use Rattle.indexmap.specs.IndexMap.{spare as room};
 ghost use Rattle.meaning_tables.specs.Tables.{table_of, with_table, without_table};
 
 use crate::Table;
-use crate::tables::{Tables, put_copy};
+use crate::tables::{Tables, put_copy, was_there};
 use dl_base::{Memory, Name};
 use indexmap::IndexMap;
 use std::alloc::Global;
@@ -100,7 +100,7 @@ impl RoomyTables {
         ensures tables { self.new.tables ≡ with_table self.old.tables name.now table }
         ensures spare { self.new.spare ≡ self.old.spare }
     {
-        let _ = exchange(&mut self.entries, name, table);
+        let _ = was_there(exchange(&mut self.entries, name, table));
     }
 
     /// Takes the table of a name away, if a table has it. It takes no memory.
@@ -108,7 +108,7 @@ impl RoomyTables {
         ensures tables { self.new.tables ≡ without_table self.old.tables name.now }
         ensures spare { self.old.spare ≤ self.new.spare }
     {
-        let _ = self.entries.shift_remove(name);
+        let _ = was_there(self.entries.shift_remove(name));
     }
 
     /// Puts a table behind the others, where no table has its name. It takes no memory.
@@ -140,6 +140,6 @@ fn insert(entries: &mut IndexMap<Name, Table>, name: Name, table: Table) -> Resu
     ensures room { 0 < room entries.old → IsOk result }
     ensures spare { room entries.old ≤ room entries.new + 1 }
 {
-    entries.insert(name, table)?;
+    let _ = was_there(entries.insert(name, table)?);
     Ok(())
 }

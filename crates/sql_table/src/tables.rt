@@ -90,7 +90,7 @@ impl Tables {
         ensures err { OnErr result (self.new ≡ self.old) }
     {
         let table = Table::made(*self.entries.allocator(), columns)?;
-        self.entries.insert(name, table)?;
+        let _ = was_there(self.entries.insert(name, table)?);
         Ok(())
     }
 
@@ -99,7 +99,7 @@ impl Tables {
         ensures found { result ≡ is_some (table_of self.old name.now) }
         ensures after { self.new ≡ without_table self.old name.now }
     {
-        self.entries.shift_remove(name).is_some()
+        was_there(self.entries.shift_remove(name))
     }
 
     /// The names, in order.
@@ -165,6 +165,13 @@ impl Tables {
     }
 }
 
+// Whether a table was there. It ends here, so that its drop is proved once and not in each function that a map gives one back to.
+pub(crate) fn was_there(table: Option<Table>) -> bool
+    ensures { result ≡ is_some table }
+{
+    table.is_some()
+}
+
 // Puts a copy of a table under a copy of its name.
 pub(crate) fn put_copy(
     entries: &mut IndexMap<Name, Table>,
@@ -173,7 +180,7 @@ pub(crate) fn put_copy(
 ) -> Result<(), Memory>
     ensures { OnOk result (entries.new.entries ≡ insert_entry (pointwise ◌==◌) entries.old.entries name.now table.now) }
 {
-    entries.insert(name.copy()?, table.copy()?)?;
+    let _ = was_there(entries.insert(name.copy()?, table.copy()?)?);
     Ok(())
 }
 

@@ -56,48 +56,62 @@ fn begins(alloc: Global) -> Option<bool> {
 }
 
 /// Whether a write in the middle and one past the end leave these bytes, and the length behind them.
-fn written(alloc: Global) -> Option<(bool, bool, Option<u64>, u64)> {
-    let mut bench = bench_of(alloc, None, None)?;
-    let inside = write(&mut bench, 2, b"XY")? && has_rows(&bench, b"abXYef");
-    let past = write(&mut bench, 5, b"long")? && has_rows(&bench, b"abXYelong");
-    let length = bench.length(Area::Rows).ok();
-    Some((inside, past, length, bench.starved()))
+fn write_both(bench: &mut MemoryBench) -> Option<(bool, bool, Option<u64>)> {
+    let inside = write(bench, 2, b"XY")? && has_rows(bench, b"abXYef");
+    let past = write(bench, 5, b"long")? && has_rows(bench, b"abXYelong");
+    Some((inside, past, bench.length(Area::Rows).ok()))
 }
 
-fn told(alloc: Global) -> Option<bool> {
+fn written(alloc: Global) -> Option<(bool, bool, Option<u64>)> {
     let mut bench = bench_of(alloc, None, None)?;
+    write_both(&mut bench)
+}
+
+/// How many calls found no memory, where two texts are told, one behind the other.
+fn say_both(bench: &mut MemoryBench) -> Option<u64> {
     bench.say(b"one ").ok()?;
     bench.say(b"two").ok()?;
-    Some(bench.told() == b"one two".as_slice() && bench.starved() == 0)
+    if bench.told() == b"one two".as_slice() {
+        Some(bench.starved())
+    } else {
+        None
+    }
+}
+
+fn told(alloc: Global) -> Option<u64> {
+    let mut bench = bench_of(alloc, None, None)?;
+    say_both(&mut bench)
 }
 
 #[test]
 fn calls_do_what_they_say(rt: HostRuntime) {
     let alloc = rt.alloc();
     assert!(rt; begins(alloc) == Some(true));
-    assert!(rt; written(alloc) == Some((true, true, Some(9), 0)));
-    assert!(rt; told(alloc) == Some(true));
+    assert!(rt; written(alloc) == Some((true, true, Some(9))));
+    assert!(rt; told(alloc) == Some(0));
 }
 
 fn kinds() -> [Call; 5] {
     [Call::Length, Call::Read, Call::Write, Call::Sync, Call::Say]
 }
 
-/// Where the first call of a kind fails: whether it is done, whether Rows stay, how much is told, and whether the second is
-/// done.
+/// Whether the first of two calls is done, whether Rows are as they were then, how much is told, and whether the second is done.
+fn call_both(bench: &mut MemoryBench, kind: Call) -> Option<(bool, bool, usize, bool)> {
+    let first = call(bench, kind)?;
+    let same = has_rows(bench, b"abcdef");
+    let told = bench.told().len();
+    Some((first, same, told, call(bench, kind)?))
+}
+
 fn first_fails(alloc: Global, kind: Call) -> Option<(bool, bool, usize, bool)> {
     let mut bench = bench_of(alloc, Some((kind, 1)), None)?;
-    let first = call(&mut bench, kind)?;
-    let same = has_rows(&bench, b"abcdef");
-    let told = bench.told().len();
-    Some((first, same, told, call(&mut bench, kind)?))
+    call_both(&mut bench, kind)
 }
 
 /// Where the second fails: whether each is done, and how many calls found no memory.
 fn second_fails(alloc: Global, kind: Call) -> Option<(bool, bool, u64)> {
     let mut bench = bench_of(alloc, Some((kind, 2)), None)?;
-    let first = call(&mut bench, kind)?;
-    let second = call(&mut bench, kind)?;
+    let (first, _, _, second) = call_both(&mut bench, kind)?;
     Some((first, second, bench.starved()))
 }
 
@@ -110,18 +124,25 @@ fn a_listed_call_fails_and_changes_nothing(rt: HostRuntime) {
     }
 }
 
-/// Whether the third call and the next fail, the write before them is there, and half of the last call is told.
-fn fused(alloc: Global) -> Option<bool> {
+/// Whether each of four calls is done.
+fn call_four(bench: &mut MemoryBench) -> Option<(bool, bool, bool, bool)> {
+    let first = call(bench, Call::Length)?;
+    let second = call(bench, Call::Write)?;
+    let third = call(bench, Call::Sync)?;
+    Some((first, second, third, call(bench, Call::Say)?))
+}
+
+/// The same where the fuse lets two calls pass, if the write is there then and half of the last call is told.
+fn fused(alloc: Global) -> Option<(bool, bool, bool, bool)> {
     let mut bench = bench_of(alloc, None, Some(2))?;
-    let before = call(&mut bench, Call::Length)? && call(&mut bench, Call::Write)?;
-    let behind = call(&mut bench, Call::Sync)? || call(&mut bench, Call::Say)?;
-    let left = has_rows(&bench, b"abXYef") && bench.told() == b"h".as_slice();
-    Some(before && !behind && left)
+    let done = call_four(&mut bench)?;
+    let is_left = has_rows(&bench, b"abXYef") && bench.told() == b"h".as_slice();
+    if is_left { Some(done) } else { None }
 }
 
 #[test]
 fn a_fuse_lets_so_many_calls_pass(rt: HostRuntime) {
-    assert!(rt; fused(rt.alloc()) == Some(true));
+    assert!(rt; fused(rt.alloc()) == Some((true, true, false, false)));
 }
 
 /// What a crash leaves behind a write and one more call.

@@ -1,65 +1,45 @@
-// The bytes of an area, the calls of an append, and each call that fails. Expected bytes are written by the format, byte by byte.
-use crate::tape::Tape;
+// What is read and appended, and each call that fails. Expected bytes are written by the format, byte by byte. Which bytes are records
+// is said by worked rows.
+ghost use Rattle.std.specs.Prelude.{IfSome};
+ghost use Rattle.dl_bench.specs.Traces.{seen};
+ghost use Rattle.dl_journal.specs.Open.{IsOpen};
+
+use crate::made::with_area;
 use dl_base::{AppendFault, Area, BeginFault, Full, List, Text};
+use dl_bench::MemoryBench;
 use dl_journal::Journal;
 use std::alloc::Global;
 
-// The bytes of an area, the bodies of its records, and its length then.
-fn areas() -> &'static [(&'static [u8], &'static [&'static [u8]], u64)] {
-    &[
-        (&[], &[], 1),
-        (&[1], &[], 1),
-        (&[0, 1, 2], &[], 1),
-        (&[2, 1], &[], 1),
-        (&[1, 0, 0, 0, 0, 0, 0, 0, 0, 0], &[b""], 10),
-        (&[1, 0, 0, 0, 0, 0, 0, 0, 2, 7, 8, 9], &[&[7, 8]], 12),
-        (
-            &[
-                1, 0, 0, 0, 0, 0, 0, 0, 1, 5, 1, 0, 0, 0, 0, 0, 0, 0, 2, 7, 8, 0, 1, 1,
-            ],
-            &[&[5], &[7, 8]],
-            22,
-        ),
-    ]
-}
+/// Two records, of 5 and of 7 and 8, and bytes behind the closed gate.
+const TWO_RECORDS: [u8; 24] = [
+    1, 0, 0, 0, 0, 0, 0, 0, 1, 5, 1, 0, 0, 0, 0, 0, 0, 0, 2, 7, 8, 0, 1, 1,
+];
 
-// The bytes of an area that is no list, and the place of the first record that is none.
-fn broken() -> &'static [(&'static [u8], u64)] {
-    &[
-        (&[1, 0], 0),
-        (&[1, 0, 0, 0, 0, 0, 0, 0, 0], 0),
-        (&[1, 0, 0, 0, 0, 0, 0, 0, 2, 7, 8], 0),
-        (&[1, 1, 0, 0, 0, 0, 0, 0, 0, 7, 8], 0),
-        (
-            &[
-                1, 0, 0, 0, 0, 0, 0, 0, 1, 5, 1, 0, 0, 0, 0, 0, 0, 0, 2, 7, 8,
-            ],
-            10,
-        ),
-    ]
-}
+/// Two records, of 7 and 8 and of nothing, and the closing gate.
+const APPENDED: [u8; 21] = [
+    1, 0, 0, 0, 0, 0, 0, 0, 2, 7, 8, 1, 0, 0, 0, 0, 0, 0, 0, 0, 0,
+];
 
-/// Whether the list has one body for each of these, and they are equal.
-fn has(list: &List<Text>, bodies: &[&[u8]]) -> bool {
-    let mut pairs = list.as_slice().iter().zip(bodies.iter());
-    list.len() == bodies.len() && pairs.all(|(body, wanted)| body.bytes() == *wanted)
-}
-
-fn begin_of(alloc: Global, content: &[u8]) -> Result<(Journal, List<Text>), BeginFault> {
-    let mut tape = Tape::of(content, 5);
-    Journal::begin(alloc, &mut tape, Area::Rows, 64)
-}
-
-/// Whether an area with this content begins with these bodies, and then has this length.
-fn begins(alloc: Global, content: &[u8], bodies: &[&[u8]], length: u64) -> bool {
-    match begin_of(alloc, content) {
-        Ok((journal, list)) => has(&list, bodies) && journal.length() == length,
-        Err(_fault) => false,
+fn is_at(list: &List<Text>, place: usize, body: &[u8]) -> bool {
+    match list.at(place) {
+        Some(found) => found.bytes() == body,
+        None => false,
     }
 }
 
-fn place_of(alloc: Global, content: &[u8]) -> Option<u64> {
-    match begin_of(alloc, content) {
+/// How many records an area has, whether the second is of 7 and 8, and the length of the journal.
+fn begun(alloc: Global, content: &[u8]) -> Option<(usize, bool, u64)> {
+    let mut bench = with_area(alloc, Area::Rows, content, None)?;
+    match Journal::begin(alloc, &mut bench, Area::Rows, 64) {
+        Ok((journal, list)) => Some((list.len(), is_at(&list, 1, &[7, 8]), journal.length())),
+        Err(_) => None,
+    }
+}
+
+/// The place of the first record that is none.
+fn refused_at(alloc: Global, content: &[u8]) -> Option<u64> {
+    let mut bench = with_area(alloc, Area::Rows, content, None)?;
+    match Journal::begin(alloc, &mut bench, Area::Rows, 64) {
         Err(BeginFault::NotAJournal(place)) => Some(place),
         _ => None,
     }
@@ -67,66 +47,68 @@ fn place_of(alloc: Global, content: &[u8]) -> Option<u64> {
 
 #[test]
 fn reads_by_the_format(rt: HostRuntime) {
-    for (content, bodies, length) in areas() {
-        assert!(rt; begins(rt.alloc(), content, bodies, *length));
-    }
-    for (content, place) in broken() {
-        assert!(rt; place_of(rt.alloc(), content) == Some(*place));
-    }
+    assert!(rt; begun(rt.alloc(), &TWO_RECORDS) == Some((2, true, 22)));
+    assert!(rt; refused_at(rt.alloc(), &TWO_RECORDS[..21]) == Some(10));
 }
 
-/// The journal of an empty tape, with room for 21 bytes.
-fn opened(alloc: Global, tape: &mut Tape) -> Option<Journal> {
-    match Journal::begin(alloc, tape, Area::Rows, 21) {
-        Ok((journal, list)) => { if list.len() == 0 { Some(journal) } else { None } }
-        Err(_) => None,
-    }
+/// The journal of an area, with room for 21 bytes.
+fn opened(alloc: Global, bench: &mut MemoryBench) -> Option<Journal>
+    ensures { IfSome result (λ journal. IsOpen journal (seen bench.new)) }
+{
+    let (journal, _) = Journal::begin(alloc, bench, Area::Rows, 21).ok()?;
+    Some(journal)
 }
 
 /// The length behind two records, and the answer of a third that has no room.
-fn appended(journal: &mut Journal, tape: &mut Tape) -> Option<(u64, Option<AppendFault>)> {
-    journal.append(tape, &[7, 8]).ok()?;
-    journal.append(tape, &[]).ok()?;
+fn appended(journal: &mut Journal, bench: &mut MemoryBench) -> Option<(u64, Option<AppendFault>)>
+    requires { IsOpen journal.old (seen bench.old) }
+{
+    journal.append(bench, &[7, 8]).ok()?;
+    journal.append(bench, &[]).ok()?;
     let length = journal.length();
-    Some((length, journal.append(tape, &[9]).err()))
+    Some((length, journal.append(bench, &[9]).err()))
 }
 
-fn told(alloc: Global, tape: &mut Tape) -> Option<(u64, Option<AppendFault>)> {
-    let mut journal = opened(alloc, tape)?;
-    appended(&mut journal, tape)
+fn told(alloc: Global, bench: &mut MemoryBench) -> Option<(u64, Option<AppendFault>)> {
+    let mut journal = opened(alloc, bench)?;
+    appended(&mut journal, bench)
+}
+
+/// The same on a bench that has so many calls, if the area is those records then.
+fn told_of(alloc: Global, calls: u64) -> Option<(u64, Option<AppendFault>)> {
+    let mut bench = with_area(alloc, Area::Rows, b"", Some(calls))?;
+    let answers = told(alloc, &mut bench)?;
+    if bench.area(Area::Rows) == APPENDED.as_slice() {
+        Some(answers)
+    } else {
+        None
+    }
 }
 
 // The opening has five calls, and each append six.
 #[test]
 fn appends_by_the_format(rt: HostRuntime) {
-    let mut tape = Tape::of(&[], 17);
     let full = Some(AppendFault::Full(Full::Area(Area::Rows, 31)));
-    assert!(rt; told(rt.alloc(), &mut tape) == Some((21, full)));
-    assert!(rt; tape.left == 0);
-    assert!(rt; tape.length == 21);
-    let front = [
-        1, 0, 0, 0, 0, 0, 0, 0, 2, 7, 8, 1, 0, 0, 0, 0, 0, 0, 0, 0, 0,
-    ];
-    assert!(rt; tape.bytes[..21] == front[..]);
-    assert!(rt; tape.bytes[21..] == [0; 11][..]);
+    assert!(rt; told_of(rt.alloc(), 17) == Some((21, full)));
+    assert!(rt; told_of(rt.alloc(), 16) == None);
 }
 
 /// What the first call that fails is answered, of an opening and an append.
-fn first_fault(alloc: Global, left: u32) -> (Option<BeginFault>, Option<AppendFault>) {
-    let mut tape = Tape::of(&[], left);
-    match Journal::begin(alloc, &mut tape, Area::Files, 64) {
-        Ok((mut journal, _list)) => (None, journal.append(&mut tape, &[7, 8]).err()),
-        Err(fault) => (Some(fault), None),
+fn first_fault(alloc: Global, calls: u64) -> Option<(Option<BeginFault>, Option<AppendFault>)> {
+    let mut bench = with_area(alloc, Area::Files, b"", Some(calls))?;
+    match Journal::begin(alloc, &mut bench, Area::Files, 64) {
+        Ok((mut journal, _list)) => Some((None, journal.append(&mut bench, &[7, 8]).err())),
+        Err(fault) => Some((Some(fault), None)),
     }
 }
 
 #[test]
 fn hands_each_fault_on(rt: HostRuntime) {
-    for left in 0..5 {
-        assert!(rt; first_fault(rt.alloc(), left) == (Some(BeginFault::Device), None));
+    for calls in 0..5 {
+        assert!(rt; first_fault(rt.alloc(), calls) == Some((Some(BeginFault::Device), None)));
     }
-    for left in 5..11 {
-        assert!(rt; first_fault(rt.alloc(), left) == (None, Some(AppendFault::Device)));
+    for calls in 5..11 {
+        assert!(rt; first_fault(rt.alloc(), calls) == Some((None, Some(AppendFault::Device))));
     }
-    assert!(rt; first_fault(rt.alloc(), 11) == (None, None));
+    assert!(rt; first_fault(rt.alloc(), 11) == Some((None, None)));
 }

