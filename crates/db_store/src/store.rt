@@ -13,6 +13,7 @@ ghost use Rattle.dl_journal.specs.Open.{IsOpen, IsUnwritten};
 ghost use Rattle.meaning_areas.specs.Areas.{rows_of};
 ghost use Rattle.meaning_areas.specs.Commits.{commit_of, has_number, tables_after, with_ended};
 ghost use Rattle.meaning_areas.specs.Stands.{past};
+ghost use Rattle.db_changes.specs.Made.{record_of};
 ghost use Rattle.db_changes.specs.Touched.{AreCommitted};
 ghost use Rattle.db_store.specs.Log.{AllCommitted, AllNew, commit_numbered, open_branches};
 ghost use Rattle.db_store.specs.Store.{CanEnd, IsTaken, commit_write, committed_with, draw_full, drawn_next, ended_write, extent, most_numbers, opening_write, reopened, rows_in};
@@ -240,6 +241,9 @@ impl Store {
         ensures same { OnOk result ((self.new.drawn ≡ self.old.drawn) × (self.new.limit ≡ self.old.limit)) }
         ensures err { OnErr result (self.new ≡ self.old) }
         ensures does { DoesAlone (extent self.old) (extent self.new) (commit_write self.old.rows made ∷ []) (result_err result) (B.outside bench.old) (B.outside bench.new) }
+
+        // What it writes has a spelling, so it is read as what it was.
+        ensures spelled { rows_record.fits (record_of made (length self.old.rows.commits + 1)) }
     {
         let tx = made.tx();
         let branch = made.branch();

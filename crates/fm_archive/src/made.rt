@@ -29,7 +29,7 @@ impl Model for CopyMade {
 
     ghost view = { λ m. m.copy };
 
-    ghost invariant = { λ m. (m.copy.digest ≡ sha256 m.copy.bytes) × (m.body ≡ archive_record.spelling (records.Copy m.copy)) };
+    ghost invariant = { λ m. (m.copy.digest ≡ sha256 m.copy.bytes) × archive_record.fits (records.Copy m.copy) × (m.body ≡ archive_record.spelling (records.Copy m.copy)) };
 }
 
 impl CopyMade {
@@ -38,6 +38,13 @@ impl CopyMade {
         ensures { result ≡ self.now.link }
     {
         self.copy.link
+    }
+
+    /// Its record has a spelling. The function does nothing: it carries what a copy is made with.
+    pub fn is_spelled(&self)
+        ensures { archive_record.fits (records.Copy self.now) }
+    {
+        let _link = self.copy.link;
     }
 
     /// The copy, and the body of its record. It takes no memory.

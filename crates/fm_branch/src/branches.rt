@@ -1,5 +1,5 @@
 // The branches that are open on a bench.
-ghost use Rattle.std.specs.Prelude.{◌≡◌, ◌≤◌, ◌^◌, ◌++◌, ◌∷◌, [], ℕ, List, Some, Ok, Err, IfOk, OnOk, OnErr};
+ghost use Rattle.std.specs.Prelude.{◌≡◌, ◌≢◌, ◌≤◌, ◌^◌, ◌++◌, ◌∷◌, [], ℕ, List, Some, Ok, Err, IfOk, OnOk, OnErr};
 ghost use Rattle.std.specs.Cmp.Lexicographic.{slice_cmp};
 ghost use Rattle.std.specs.FinMap as maps;
 ghost use Rattle.std.specs.List.Sorted.{IsPermutation, IsSortedByKey};
@@ -10,6 +10,7 @@ ghost use Rattle.dl_areas.specs.Opening.{IsOpened, OpensOne};
 ghost use Rattle.dl_areas.specs.Writing.{DoesAlone, EndsAlone};
 ghost use Rattle.dl_base.specs.Outside.{FaultCounted};
 ghost use Rattle.dl_base.specs.declared.area.Area.TheVariants as areas;
+ghost use Rattle.dl_codec.specs.Links.{links_record};
 ghost use Rattle.dl_codec.specs.declared.links.LinksRecord.TheVariants as records;
 ghost use Rattle.dl_journal.specs.Open.{IsOpen, IsUnwritten};
 ghost use Rattle.fm_branch.specs.Held.{row_on};
@@ -132,6 +133,7 @@ impl Branches {
         ensures limit { self.new.limit ≡ self.old.limit }
         ensures err { OnErr result (self.new ≡ self.old) }
         ensures ends { EndsAlone (extent self.old) (extent self.new) (write_for (records.Prepared tx gives takes) ∷ []) (result_err result) (B.outside bench.old) (B.outside bench.new) }
+        ensures spelled { result ≢ Err StepFault.Memory → links_record.fits (records.Prepared tx gives takes) }
     {
         steps_end_so::<B>();
         let (body, entry) = parts_of(self.alloc, tx, gives, takes)?;

@@ -1,5 +1,5 @@
 // What the fold asks of a Prepared, and what it makes of one.
-ghost use Rattle.std.specs.Prelude.{◌≡◌, ◌||◌, ℕ, List, IfOk, map, not};
+ghost use Rattle.std.specs.Prelude.{◌≡◌, ◌||◌, ℕ, List, IfOk, OnOk, map, not};
 ghost use Rattle.std.specs.BTreeSet.{contains};
 ghost use Rattle.std.specs.Cmp.Lexicographic.{slice_cmp};
 ghost use Rattle.std.specs.FinMap as maps;
@@ -56,6 +56,7 @@ pub fn parts_of(
     gives: List<LinkRow>,
     takes: List<Taken>,
 ) -> Result<(List<u8>, Entry), Memory>
+    ensures fits { OnOk result (links_record.fits (records.Prepared tx gives takes)) }
     ensures body { IfOk result (λ made. made.0 ≡ links_record.spelling (records.Prepared tx gives takes)) }
     ensures entry { IfOk result (λ made. made.1 ≡ branch (moved_by gives takes) phases.Prepared) }
 {

@@ -35,7 +35,8 @@ pub fn opening_body(number: u32) -> [u8; 5]
 
 /// The body of a record. One with a text or a list of 2^32 items has none: it is answered `Memory`, as is want of memory.
 pub fn body_of(alloc: Global, written: &LinksRecord) -> Result<List<u8>, Memory>
-    ensures { IfOk result (λ body. body ≡ links_record.spelling written.now) }
+    ensures fits { OnOk result (links_record.fits written.now) }
+    ensures body { IfOk result (λ body. body ≡ links_record.spelling written.now) }
 {
     let mut body = List::empty(alloc);
     put_links_record(&mut body, written)?;

@@ -2,3 +2,4 @@ pub mod Managing
 pub mod Folding
 pub mod Storing
 pub mod Parts
+pub mod Spelled

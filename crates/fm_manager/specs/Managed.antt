@@ -1,5 +1,5 @@
 -- What contracts see of the file manager: three of the five areas, and what a call of it does to them.
-use Rattle.std.specs.Prelude.{◌≡◌, ◌≤◌, List, map, refl, Option, Some, None, is_some, true}
+use Rattle.std.specs.Prelude.{◌≡◌, ◌≤◌, List, [], ◌∷◌, map, refl, Option, Some, None, is_some, true}
 use Rattle.std.specs.Coded.{Coded, code_by, coded×}
 use Rattle.dl_areas.specs.Batch.{writes_in}
 use Rattle.dl_areas.specs.Lists.{Journals, Write, AreReady}
@@ -9,6 +9,11 @@ use Rattle.dl_base.specs.declared.area.Area.TheVariants as areas
 use Rattle.dl_base.specs.declared.fault.AppendFault.{AppendFault}
 use Rattle.dl_base.specs.declared.fault.StepFault.{StepFault}
 use Rattle.dl_base.specs.declared.file.FileCmd.{FileCmd}
+use Rattle.dl_codec.specs.Archive.{archive_record}
+use Rattle.dl_codec.specs.Backups.{backup_record}
+use Rattle.dl_codec.specs.Files.{files_record}
+use Rattle.dl_codec.specs.Links.{links_record}
+use Rattle.dl_codec.specs.Rows.{rows_record}
 use Rattle.dl_journal.specs.Open.{IsOpen}
 use Rattle.fm_archive.specs.Stock.{Stock, stock_code}
 use Rattle.fm_archive.specs.Stock as copies_area
@@ -19,7 +24,7 @@ use Rattle.fs_files.specs.Store as files_area
 use Rattle.meaning_areas.specs.Commits.{Commits}
 use Rattle.meaning_areas.specs.Copies.{Backup}
 use Rattle.meaning_areas.specs.FilesArea.{writes}
-use Rattle.meaning_areas.specs.Lists.{Folds, Written, folds_on}
+use Rattle.meaning_areas.specs.Lists.{Folds, Written, folds_on, in_archive, in_backups, in_files, in_links, in_rows}
 use Rattle.meaning_settling.specs.Settling.{Kept}
 use Rattle.meaning_system.specs.Full.{body_of, number_full}
 
@@ -70,6 +75,18 @@ as_write x = record { area = (body_of x).0; body = (body_of x).1; exhausted = nu
 
 abbrev pub as_writes : List Written → List Write
 as_writes xs = map as_write xs
+
+-- A RECORD HAS A SPELLING: no text and no list in it is too long, and no number too great. What is written has one, and is read as what it was.
+abbrev pub IsSpelled : Written → Type 0
+IsSpelled (in_rows x) = rows_record.fits x
+IsSpelled (in_links x) = links_record.fits x
+IsSpelled (in_files x) = files_record.fits x
+IsSpelled (in_archive x) = archive_record.fits x
+IsSpelled (in_backups x) = backup_record.fits x
+
+abbrev pub AreSpelled : List Written → Type 0
+AreSpelled [] = Unit {0}
+AreSpelled (x ∷ xs) = IsSpelled x × AreSpelled xs
 
 -- these records lead from what the lists of one stand for to what those of the other do, whatever the database has
 abbrev pub FoldsTo : Managed → Managed → List Written → Type 0

@@ -1,15 +1,17 @@
 // The manager: its three owners, and what it writes into one area.
-ghost use Rattle.std.specs.Prelude.{◌≡◌, ◌≤◌, ◌+◌, ◌∷◌, ◌++◌, [], ℕ, None, IfOk, OnOk, OnErr, length};
+ghost use Rattle.std.specs.Prelude.{◌≡◌, ◌≢◌, ◌≤◌, ◌+◌, ◌∷◌, ◌++◌, [], ℕ, None, IfOk, OnOk, OnErr, length};
 ghost use Rattle.std.specs.Result.{result_err};
+ghost use Rattle.dl_codec.specs.Files.{files_record};
 ghost use Rattle.dl_codec.specs.declared.archive.ArchiveRecord.TheVariants as archive_records;
+ghost use Rattle.dl_codec.specs.declared.files.FilesRecord.TheVariants as files_records;
 ghost use Rattle.dl_codec.specs.declared.links.LinksRecord.TheVariants as links_records;
 ghost use Rattle.dl_base.specs.declared.file.FileCmd as commands;
 ghost use Rattle.fm_branch.specs.Linked.{reopened};
 ghost use Rattle.fs_files.specs.Store.{IsWriting};
 ghost use Rattle.meaning_areas.specs.Lists.{in_archive, in_links};
-ghost use Rattle.meaning_files.specs.Commands.{changed, refusal};
+ghost use Rattle.meaning_files.specs.Commands.{changed, command_changes, refusal};
 ghost use Rattle.meaning_settling.specs.Settling.{Moved};
-ghost use Rattle.fm_manager.specs.Managed.{AreOpen, FoldsTo, IsTakenBy, Manages, ManagesStep, as_writes, command_writes, kept_in};
+ghost use Rattle.fm_manager.specs.Managed.{AreOpen, FoldsTo, IsSpelled, IsTakenBy, Manages, ManagesStep, as_writes, command_writes, kept_in};
 ghost use Rattle.fm_manager.specs.Pieces.{AreOf, HaveRoom};
 
 use crate::laws::calls_of_the_manager;
@@ -114,6 +116,7 @@ impl Manager {
         ensures prepared { OnOk result (self.new.links.prepared ≡ self.old.links.prepared ++ tx ∷ []) }
         ensures err { OnErr result (self.new ≡ self.old) }
         ensures ends { ManagesStep self.old self.new (as_writes (in_links (links_records.Prepared tx gives takes) ∷ [])) (result_err result) (B.outside bench.old) (B.outside bench.new) }
+        ensures spelled { result ≢ Err StepFault.Memory → IsSpelled (in_links (links_records.Prepared tx gives takes)) }
     {
         calls_of_the_manager::<B>();
         self.branches.prepare(bench, tx, gives, takes)
@@ -158,6 +161,7 @@ impl Manager {
         ensures same { OnOk result (self.new ≡ record self.old { files = self.new.files }) }
         ensures err { OnErr result (self.new ≡ record self.old { files = record self.old.files { spare = self.new.files.spare } }) }
         ensures ends { ManagesStep self.old self.new (command_writes self.old cmd) (result_err result) (B.outside bench.old) (B.outside bench.new) }
+        ensures spelled { result ≢ Err StepFault.Memory → files_record.fits (files_records.Batch 0 (command_changes self.old.files.files cmd.user cmd.what)) }
     {
         calls_of_the_manager::<B>();
         self.files.apply(bench, cmd)

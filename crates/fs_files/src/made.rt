@@ -31,6 +31,13 @@ impl Model for FilesMade {
 }
 
 impl FilesMade {
+    /// Its record has a spelling. The function does nothing: it carries what a batch is made with.
+    pub fn is_spelled(&self)
+        ensures { files_record.fits (records.Batch self.now.tx self.now.changes) }
+    {
+        let _tx = self.tx;
+    }
+
     /// The changes, and the body of their record. It takes no memory.
     pub(crate) fn parts(self) -> (List<FileChange>, List<u8>)
         ensures changes { result.0 ≡ self.changes }

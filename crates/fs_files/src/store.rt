@@ -1,5 +1,5 @@
 // The files that are open on a bench.
-ghost use Rattle.std.specs.Prelude.{◌≡◌, ◌+◌, ◌<◌, ◌≤◌, ◌^◌, ℕ, List, [], ◌∷◌, ◌++◌, Some, None, Ok, Err, IsSome, IsErr, IfOk, OnOk, OnErr};
+ghost use Rattle.std.specs.Prelude.{◌≡◌, ◌≢◌, ◌+◌, ◌<◌, ◌≤◌, ◌^◌, ℕ, List, [], ◌∷◌, ◌++◌, Some, None, Ok, Err, IsSome, IsErr, IfOk, OnOk, OnErr};
 ghost use Rattle.std.specs.FinMap as map;
 ghost use Rattle.std.specs.Option.{option_copied};
 ghost use Rattle.std.specs.Result.{result_err};
@@ -9,6 +9,8 @@ ghost use Rattle.dl_areas.specs.Writing.{DoesAlone, EndsAlone};
 ghost use Rattle.dl_base.specs.Outside.{ChangesOnly, FaultCounted};
 ghost use Rattle.dl_base.specs.declared.area.Area.TheVariants as areas;
 ghost use Rattle.dl_base.specs.declared.fault.Full.{Full};
+ghost use Rattle.dl_codec.specs.Files.{files_record};
+ghost use Rattle.dl_codec.specs.declared.files.FilesRecord.TheVariants as records;
 ghost use Rattle.dl_journal.specs.Open.{IsList, IsOpen, IsOpening, IsUnwritten, ReadsSameList};
 ghost use Rattle.fs_files.specs.Batch.{batch_record, batch_write, puts};
 ghost use Rattle.fs_files.specs.Store.{Holds, IsReady, IsWriting, StandsWithout, StandsAround, extent, record_of, full_with, IsFullWith};
@@ -239,6 +241,9 @@ impl Files {
         // The same of five areas: it writes that one record, and takes its memory before it writes.
         ensures ends { EndsAlone (extent self.old) (extent self.new) (writes_in areas.Files (writes self.old.files cmd)) (result_err result) (B.outside bench.old) (B.outside bench.new) }
 
+        // What it writes has a spelling, so it is read as what it was.
+        ensures spelled { result ≢ Err StepFault.Memory → files_record.fits (records.Batch 0 (command_changes self.old.files cmd.user cmd.what)) }
+
         ensures limit { self.new.limit ≡ self.old.limit }
 
         // After an error there may be room for more files.
@@ -253,6 +258,7 @@ impl Files {
         steps_end_so::<B>();
         let changes = self.changes(cmd)?;
         let made = self.made(0, changes)?;
+        made.is_spelled();
         match self.batch(bench, made) {
             Ok(()) => Ok(()),
             Err(fault) => Err(StepFault::from(fault)),

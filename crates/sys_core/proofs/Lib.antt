@@ -19,6 +19,7 @@ pub mod RollingBack
 pub mod Roomy
 pub mod Seating
 pub mod Separate
+pub mod Spelled
 pub mod Starting
 pub mod Stating
 pub mod Stepped

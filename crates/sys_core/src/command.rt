@@ -1,11 +1,13 @@
 // A command of a user on files.
-ghost use Rattle.std.specs.Prelude.{◌≡◌, ℕ, None, IfOk};
+ghost use Rattle.std.specs.Prelude.{◌≡◌, ◌≢◌, ℕ, Err, None, IfOk};
 ghost use Rattle.std.specs.FinMap as maps;
 ghost use Rattle.dl_areas.specs.Lists.{AreReady};
 ghost use Rattle.dl_base.specs.declared.step.Step.TheVariants as steps;
+ghost use Rattle.fm_manager.specs.Managed.{AreSpelled};
 ghost use Rattle.meaning_files.specs.Commands.{bytes_of};
 ghost use Rattle.meaning_system.specs.Commands.{command_refusal};
 ghost use Rattle.meaning_system.specs.State.{State};
+ghost use Rattle.meaning_system.specs.Writes.{writes};
 ghost use Rattle.sys_core.specs.Guarded.{looked};
 ghost use Rattle.sys_core.specs.Standing.{IsOf};
 ghost use Rattle.sys_core.specs.Steps.{Steps};
@@ -28,6 +30,7 @@ impl Engine {
         requires ready { AreReady (journals_of self.old.owners) (B.outside bench.old) }
         requires stands { (first : ℕ) × (s : State) × IsOf first self.old s }
         ensures steps { (first : ℕ) (s : State) → IsOf first self.old s → Steps first (steps.File cmd) s self.old self.new result (B.outside bench.old) (B.outside bench.new) }
+        ensures spelled { result ≢ Err StepFault.Memory → (first : ℕ) (s : State) → IsOf first self.old s → AreSpelled (writes s (steps.File cmd)) }
     {
         calls_follow_one_another::<B>();
         let forbidden = self.forbids(&cmd.what);
@@ -41,7 +44,8 @@ impl Engine {
     fn obey<B: Bench>(&mut self, bench: &mut B, cmd: FileCmd) -> Result<Answer, StepFault>
         requires ready { AreReady (journals_of self.old.owners) (B.outside bench.old) }
         requires accepted { (first : ℕ) × (s : State) × IsOf first self.old s × (command_refusal s cmd.user cmd.what ≡ None) }
-        ensures { (first : ℕ) (s : State) → IsOf first self.old s → command_refusal s cmd.user cmd.what ≡ None → Steps first (steps.File cmd) s self.old self.new result (B.outside bench.old) (B.outside bench.new) }
+        ensures steps { (first : ℕ) (s : State) → IsOf first self.old s → command_refusal s cmd.user cmd.what ≡ None → Steps first (steps.File cmd) s self.old self.new result (B.outside bench.old) (B.outside bench.new) }
+        ensures spelled { result ≢ Err StepFault.Memory → (first : ℕ) (s : State) → IsOf first self.old s → command_refusal s cmd.user cmd.what ≡ None → AreSpelled (writes s (steps.File cmd)) }
     {
         calls_follow_one_another::<B>();
         commands_and_backups_are_taken();

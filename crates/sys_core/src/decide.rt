@@ -5,7 +5,9 @@ ghost use Rattle.db_txn.specs.Transaction.{vacant};
 ghost use Rattle.dl_areas.specs.Lists.{AreReady};
 ghost use Rattle.dl_base.specs.declared.step.Phase.TheVariants as phases;
 ghost use Rattle.dl_base.specs.declared.step.Step.TheVariants as steps;
+ghost use Rattle.fm_manager.specs.Managed.{AreSpelled};
 ghost use Rattle.meaning_system.specs.State.{State, Txn as Txns};
+ghost use Rattle.meaning_system.specs.Writes.{writes};
 ghost use Rattle.sys_core.specs.Between.{DecidesTo, IsBetween, IsDeciding};
 ghost use Rattle.sys_core.specs.Seated.{HasTxn, making_of, phase_at};
 ghost use Rattle.sys_core.specs.Standing.{IsOf};
@@ -33,6 +35,7 @@ impl Engine {
         requires stands { (first : ℕ) × (s : State) × IsOf first self.old s × HasTxn s txn.old }
         ensures steps { (first : ℕ) (s : State) → IsOf first self.old s → HasTxn s txn.old → Steps first (steps.Decide txn.old.session) s self.old self.new (as_step result) (B.outside bench.old) (B.outside bench.new) }
         ensures shows { (first : ℕ) (s : State) → IsOf first self.old s → HasTxn s txn.old → Shows (steps.Decide txn.old.session) s txn.old txn.new (as_step result) }
+        ensures spelled { (first : ℕ) (s : State) → IsOf first self.old s → HasTxn s txn.old → AreSpelled (writes s (steps.Decide txn.old.session)) }
     {
         calls_follow_one_another::<B>();
         let Some(tx) = txn.tx() else {
@@ -57,6 +60,7 @@ impl Engine {
         requires stands { (first : ℕ) × (s : State) × IsOf first self.old s × HasTxn s txn.old }
         ensures steps { (first : ℕ) (s : State) → IsOf first self.old s → HasTxn s txn.old → Steps first (steps.Decide txn.old.session) s self.old self.new (as_step result) (B.outside bench.old) (B.outside bench.new) }
         ensures shows { (first : ℕ) (s : State) → IsOf first self.old s → HasTxn s txn.old → Shows (steps.Decide txn.old.session) s txn.old txn.new (as_step result) }
+        ensures spelled { (first : ℕ) (s : State) → IsOf first self.old s → HasTxn s txn.old → AreSpelled (writes s (steps.Decide txn.old.session)) }
     {
         seats_count_together();
         // what is put in its place is not active, so its claims count as there
@@ -78,6 +82,7 @@ impl Engine {
         requires deciding { (first : ℕ) × (s : State) × (t : Txns) × IsDeciding first self.old s txn.old tx t vote }
         ensures steps { (first : ℕ) (s : State) (t : Txns) → IsDeciding first self.old s txn.old tx t vote → Steps first (steps.Decide txn.old.session) s self.old self.new (as_step result) (B.outside bench.old) (B.outside bench.new) }
         ensures shows { (first : ℕ) (s : State) (t : Txns) → IsDeciding first self.old s txn.old tx t vote → Shows (steps.Decide txn.old.session) s txn.old txn.new (as_step result) }
+        ensures spelled { (first : ℕ) (s : State) (t : Txns) → IsDeciding first self.old s txn.old tx t vote → AreSpelled (writes s (steps.Decide txn.old.session)) }
     {
         calls_follow_one_another::<B>();
         claims_behind_steps_of_a_session();
@@ -115,6 +120,7 @@ impl Engine {
         ensures steps { (first : ℕ) (s : State) (t : Txns) → IsBetween first self.old s txn.old.session tx t phases.Prepared pieces → DecidesTo s t (Some refusal)
             → Steps first (steps.Decide txn.old.session) s self.old self.new (as_step result) (B.outside bench.old) (B.outside bench.new) }
         ensures txn { OnOk result (txn.new ≡ vacant txn.old.session) }
+        ensures spelled { (first : ℕ) (s : State) (t : Txns) → IsBetween first self.old s txn.old.session tx t phases.Prepared pieces → DecidesTo s t (Some refusal) → AreSpelled (writes s (steps.Decide txn.old.session)) }
     {
         claims_behind_steps_of_a_session();
         each_step_leads_on();
@@ -145,6 +151,7 @@ impl Engine {
         requires stands { (first : ℕ) × (s : State) × (session : ℕ) × (t : Txns) × IsBetween first self.old s session tx t phases.Prepared pieces × DecidesTo s t None × (made ≡ making_of tx t) }
         ensures steps { (first : ℕ) (s : State) (session : ℕ) (t : Txns) → IsBetween first self.old s session tx t phases.Prepared pieces → DecidesTo s t None → made ≡ making_of tx t
             → Steps first (steps.Decide session) s self.old self.new (as_step result) (B.outside bench.old) (B.outside bench.new) }
+        ensures spelled { (first : ℕ) (s : State) (session : ℕ) (t : Txns) → IsBetween first self.old s session tx t phases.Prepared pieces → DecidesTo s t None → made ≡ making_of tx t → AreSpelled (writes s (steps.Decide session)) }
     {
         claims_behind_steps_of_a_session();
         each_step_leads_on();

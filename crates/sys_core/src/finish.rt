@@ -7,9 +7,9 @@ ghost use Rattle.dl_areas.specs.Lists.{AreReady};
 ghost use Rattle.dl_areas.specs.Writing.{Does};
 ghost use Rattle.dl_base.specs.declared.step.Phase.TheVariants as phases;
 ghost use Rattle.dl_base.specs.declared.step.Step.TheVariants as steps;
-ghost use Rattle.fm_manager.specs.Managed.{as_writes};
+ghost use Rattle.fm_manager.specs.Managed.{AreSpelled, as_writes};
 ghost use Rattle.meaning_system.specs.State.{State, Txn as Txns, kept_in, moved_of};
-ghost use Rattle.meaning_system.specs.Writes.{whole_finish};
+ghost use Rattle.meaning_system.specs.Writes.{whole_finish, writes};
 ghost use Rattle.sys_core.specs.Between.{IsBetween, IsSettled};
 ghost use Rattle.sys_core.specs.Seated.{HasTxn, phase_at};
 ghost use Rattle.sys_core.specs.Standing.{IsOf};
@@ -35,6 +35,7 @@ impl Engine {
         requires stands { (first : ℕ) × (s : State) × IsOf first self.old s × HasTxn s txn.old }
         ensures steps { (first : ℕ) (s : State) → IsOf first self.old s → HasTxn s txn.old → Steps first (steps.Finish txn.old.session) s self.old self.new (as_step result) (B.outside bench.old) (B.outside bench.new) }
         ensures shows { (first : ℕ) (s : State) → IsOf first self.old s → HasTxn s txn.old → Shows (steps.Finish txn.old.session) s txn.old txn.new (as_step result) }
+        ensures spelled { (first : ℕ) (s : State) → IsOf first self.old s → HasTxn s txn.old → AreSpelled (writes s (steps.Finish txn.old.session)) }
     {
         calls_follow_one_another::<B>();
         let Some(tx) = txn.tx() else {
@@ -59,6 +60,7 @@ impl Engine {
         requires stands { (first : ℕ) × (s : State) × IsOf first self.old s × HasTxn s txn.old }
         ensures steps { (first : ℕ) (s : State) → IsOf first self.old s → HasTxn s txn.old → Steps first (steps.Finish txn.old.session) s self.old self.new (as_step result) (B.outside bench.old) (B.outside bench.new) }
         ensures shows { (first : ℕ) (s : State) → IsOf first self.old s → HasTxn s txn.old → Shows (steps.Finish txn.old.session) s txn.old txn.new (as_step result) }
+        ensures spelled { (first : ℕ) (s : State) → IsOf first self.old s → HasTxn s txn.old → AreSpelled (writes s (steps.Finish txn.old.session)) }
     {
         seats_count_together();
         // what is put in its place is not active, so its claims count as there
@@ -81,6 +83,7 @@ impl Engine {
         ensures steps { (first : ℕ) (s : State) (t : Txns) → IsBetween first self.old s txn.old.session tx t phases.Decided pieces
             → Steps first (steps.Finish txn.old.session) s self.old self.new (as_step result) (B.outside bench.old) (B.outside bench.new) }
         ensures txn { OnOk result (txn.new ≡ vacant txn.old.session) }
+        ensures spelled { (first : ℕ) (s : State) (t : Txns) → IsBetween first self.old s txn.old.session tx t phases.Decided pieces → AreSpelled (writes s (steps.Finish txn.old.session)) }
     {
         claims_behind_steps_of_a_session();
         each_step_leads_on();
@@ -103,6 +106,7 @@ impl Engine {
         ensures same { OnOk result (self.new ≡ record self.old { owners = self.new.owners }) }
         ensures does { (first : ℕ) (s : State) (session tx : ℕ) (t : Txns) → IsBetween first self.old s session tx t phases.Decided pieces
             → Does (journals_of self.old.owners) (journals_of self.new.owners) (as_writes (whole_finish tx (moved_of t) (kept_in s))) (result_err result) (B.outside bench.old) (B.outside bench.new) }
+        ensures spelled { (first : ℕ) (s : State) (session tx : ℕ) (t : Txns) → IsBetween first self.old s session tx t phases.Decided pieces → AreSpelled (whole_finish tx (moved_of t) (kept_in s)) }
     {
         calls_follow_one_another::<B>();
         each_step_leads_on();
@@ -111,6 +115,7 @@ impl Engine {
         match pieces {
             Some(pieces) => {
                 let left = self.owners.manager.left(pieces);
+                left.are_spelled();
                 sys_opening::finish(&mut self.owners, bench, left)
             }
             None => Ok(()),

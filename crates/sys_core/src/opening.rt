@@ -14,7 +14,7 @@ ghost use Rattle.meaning_history.specs.Reached.{first_of};
 ghost use Rattle.meaning_system.specs.Machine.{start};
 ghost use Rattle.meaning_system.specs.Writes.{opening};
 ghost use Rattle.sys_core.specs.Standing.{IsOf};
-ghost use Rattle.sys_opening.specs.Begun.{AreFound, HasBegun};
+ghost use Rattle.sys_opening.specs.Begun.{AreFound, HasBegun, IsOfOpening};
 ghost use Rattle.sys_opening.specs.Owned.{AreTold};
 
 use crate::engine::Engine;
@@ -40,11 +40,13 @@ impl Engine {
         ensures begun { IfOk result (λ w. (lists : Lists) × (f : Folds) × HasBegun settings.limit lists f w.owners (B.outside bench.old) (B.outside bench.new) × IsOf (first_of (stored_of f)) w (start settings (stored_of f))) }
 
         ensures images { (lists : Lists) (f : Folds) → AreFound lists f (B.outside bench.old) → AtEveryMoment (IsInBegin settings.limit lists (as_writes (opening f)) (B.outside bench.old)) (B.outside bench.old) (B.outside bench.new) }
+        ensures fronts { (lists : Lists) (f : Folds) → AreFound lists f (B.outside bench.old) → AtEveryMoment (IsOfOpening lists (opening f) (B.outside bench.old)) (B.outside bench.old) (B.outside bench.new) }
         ensures told { (B.outside bench.new).told ≡ (B.outside bench.old).told }
         ensures no_store { (area : Areas_) (place : ℕ) → result ≡ Err (OpenFault.NotAStore area place) → (x : Areas) → AreTold x (B.outside bench.old) → StandForNothing x (area, place) }
         ensures unwritten { (area : Areas_) (place : ℕ) → result ≡ Err (OpenFault.NotAStore area place) → AtEveryMoment (IsInOpening (B.outside bench.old)) (B.outside bench.old) (B.outside bench.new) }
         ensures full { (full : Fulls) → result ≡ Err (OpenFault.Full full) → (lists : Lists) (f : Folds) → AreFound lists f (B.outside bench.old) → full_in (journals_with settings.limit lists) (as_writes (opening f)) ≡ Some full }
         ensures stands { (full : Fulls) → result ≡ Err (OpenFault.Full full) → (lists : Lists) → AreRead lists (B.outside bench.old) → (f : Folds) × AreFound lists f (B.outside bench.old) }
+        ensures found { (full : Fulls) → result ≡ Err (OpenFault.Full full) → (x : Areas) → AreTold x (B.outside bench.old) → (lists : Lists) × (f : Folds) × AreFound lists f (B.outside bench.old) }
         ensures device { result ≡ Err OpenFault.Device → FaultCounted (B.outside bench.old) (B.outside bench.new) }
     {
         claims_behind_stops();

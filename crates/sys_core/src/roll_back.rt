@@ -7,10 +7,10 @@ ghost use Rattle.dl_areas.specs.Writing.{Does};
 ghost use Rattle.dl_base.specs.declared.step.Phase.TheVariants as phases;
 ghost use Rattle.dl_base.specs.declared.step.Step.TheVariants as steps;
 ghost use Rattle.dl_codec.specs.declared.links.LinksRecord.TheVariants as links_records;
-ghost use Rattle.fm_manager.specs.Managed.{IsTakenBy, as_writes};
+ghost use Rattle.fm_manager.specs.Managed.{AreSpelled, IsTakenBy, as_writes};
 ghost use Rattle.meaning_areas.specs.Lists.{folds_on, in_links};
 ghost use Rattle.meaning_system.specs.State.{State, Txn as Txns, has_links, moved_of};
-ghost use Rattle.meaning_system.specs.Writes.{when};
+ghost use Rattle.meaning_system.specs.Writes.{when, writes};
 ghost use Rattle.sys_core.specs.Seated.{AreSeated, HasTxn};
 ghost use Rattle.sys_core.specs.Standing.{IsOf};
 ghost use Rattle.sys_core.specs.Steps.{Shows, Steps, as_step};
@@ -37,6 +37,7 @@ impl Engine {
         requires stands { (first : ℕ) × (s : State) × IsOf first self.old s × HasTxn s txn.old }
         ensures steps { (first : ℕ) (s : State) → IsOf first self.old s → HasTxn s txn.old → Steps first (steps.Rollback txn.old.session) s self.old self.new (as_step result) (B.outside bench.old) (B.outside bench.new) }
         ensures shows { (first : ℕ) (s : State) → IsOf first self.old s → HasTxn s txn.old → Shows (steps.Rollback txn.old.session) s txn.old txn.new (as_step result) }
+        ensures spelled { (first : ℕ) (s : State) → IsOf first self.old s → HasTxn s txn.old → AreSpelled (writes s (steps.Rollback txn.old.session)) }
     {
         each_step_leads_on();
         claims_behind_steps_of_a_session();
@@ -90,6 +91,7 @@ impl Engine {
         ensures same { OnOk result (self.new ≡ record self.old { owners = record self.old.owners { manager = record self.old.owners.manager { links = self.new.owners.manager.links } } }) }
         ensures prepared { OnOk result (self.new.owners.manager.links.prepared ≡ self.old.owners.manager.links.prepared) }
         ensures does { Does (journals_of self.old.owners) (journals_of self.new.owners) (as_writes (when branch (in_links (links_records.Aborted tx) ∷ []))) (result_err result) (B.outside bench.old) (B.outside bench.new) }
+        ensures spelled { AreSpelled (when branch (in_links (links_records.Aborted tx) ∷ [])) }
     {
         calls_follow_one_another::<B>();
         if !branch {

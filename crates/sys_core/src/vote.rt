@@ -1,11 +1,11 @@
 // What a vote looks at, makes and writes.
-ghost use Rattle.std.specs.Prelude.{◌≡◌, ◌+◌, ◌≤◌, ℕ, IfOk, OnErr, OnOk, Some, false, is_some, length, map, true};
+ghost use Rattle.std.specs.Prelude.{◌≡◌, ◌≢◌, ◌+◌, ◌≤◌, ℕ, Err, IfOk, OnErr, OnOk, Some, false, is_some, length, map, true};
 ghost use Rattle.std.specs.FinMap as maps;
 ghost use Rattle.std.specs.Result.{result_err};
 ghost use Rattle.dl_areas.specs.Lists.{AreReady};
 ghost use Rattle.dl_areas.specs.Writing.{Ends};
 ghost use Rattle.fm_links.specs.Claims.{moved};
-ghost use Rattle.fm_manager.specs.Managed.{Roomier, as_writes};
+ghost use Rattle.fm_manager.specs.Managed.{AreSpelled, Roomier, as_writes};
 ghost use Rattle.fm_pieces.specs.Keeping.{AreThere, HasPieces};
 ghost use Rattle.meaning_areas.specs.Lists.{folds_on};
 ghost use Rattle.meaning_system.specs.Claims.{files_refusal, prepare_refusal};
@@ -75,7 +75,8 @@ impl Engine {
     ) -> Result<(), StepFault>
         requires ready { AreReady (journals_of self.old.owners) (B.outside bench.old) }
         requires stands { (first : ℕ) × (s : State) × (session : ℕ) × (t : Txn) × CanVote first self.old s session tx t × (names.now ≡ t.named) × (made ≡ making_of tx t) }
-        ensures { (first : ℕ) (s : State) (session : ℕ) (t : Txn) → CanVote first self.old s session tx t → names.now ≡ t.named → made ≡ making_of tx t → Votes first s session tx t self.old self.new result (B.outside bench.old) (B.outside bench.new) }
+        ensures votes { (first : ℕ) (s : State) (session : ℕ) (t : Txn) → CanVote first self.old s session tx t → names.now ≡ t.named → made ≡ making_of tx t → Votes first s session tx t self.old self.new result (B.outside bench.old) (B.outside bench.new) }
+        ensures spelled { result ≢ Err StepFault.Memory → (first : ℕ) (s : State) (session : ℕ) (t : Txn) → CanVote first self.old s session tx t → AreSpelled (prepared tx (moved_of t)) }
     {
         calls_follow_one_another::<B>();
         pieces_as_they_are_made();
@@ -92,7 +93,8 @@ impl Engine {
     fn enter<B: Bench>(&mut self, bench: &mut B, tx: u64, vote: Vote) -> Result<(), StepFault>
         requires ready { AreReady (journals_of self.old.owners) (B.outside bench.old) }
         requires stands { (first : ℕ) × (s : State) × (session : ℕ) × (t : Txn) × CanEnter first self.old s session tx t vote }
-        ensures { (first : ℕ) (s : State) (session : ℕ) (t : Txn) → CanEnter first self.old s session tx t vote → Votes first s session tx t self.old self.new result (B.outside bench.old) (B.outside bench.new) }
+        ensures votes { (first : ℕ) (s : State) (session : ℕ) (t : Txn) → CanEnter first self.old s session tx t vote → Votes first s session tx t self.old self.new result (B.outside bench.old) (B.outside bench.new) }
+        ensures spelled { result ≢ Err StepFault.Memory → (first : ℕ) (s : State) (session : ℕ) (t : Txn) → CanVote first self.old s session tx t → AreSpelled (prepared tx (moved_of t)) }
     {
         each_step_leads_on();
         claims_behind_steps_of_a_session();
@@ -213,6 +215,7 @@ fn write_prepared<B: Bench>(
     ensures same { OnOk result (owners.new ≡ record owners.old { manager = record owners.old.manager { links = owners.new.manager.links } }) }
     ensures err { OnErr result (owners.new ≡ owners.old) }
     ensures ends { Ends (journals_of owners.old) (journals_of owners.new) (as_writes (prepared tx (moved claim.now.gives claim.now.takes))) (result_err result) (B.outside bench.old) (B.outside bench.new) }
+    ensures spelled { result ≢ Err StepFault.Memory → AreSpelled (prepared tx (moved claim.now.gives claim.now.takes)) }
 {
     calls_follow_one_another::<B>();
     if !has_links(claim) {

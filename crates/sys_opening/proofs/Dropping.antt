@@ -11,7 +11,7 @@ use Rattle.dl_codec.specs.declared.links.BranchPhase.{BranchPhase}
 use Rattle.dl_codec.specs.declared.links.BranchPhase.TheVariants as phases
 use Rattle.dl_codec.specs.declared.links.LinksRecord.TheVariants as links_records
 use Rattle.fm_branch.specs.Table.{doubtful, in_doubt, is_in_doubt}
-use Rattle.fm_manager.specs.Managed.{IsTakenBy, as_writes}
+use Rattle.fm_manager.specs.Managed.{AreSpelled, IsTakenBy, as_writes}
 use Rattle.meaning_areas.specs.Branches.{Branch}
 use Rattle.meaning_areas.specs.Commits.{commit_of}
 use Rattle.meaning_areas.specs.Lists.{Folds, Written, folds_on, in_links}
@@ -20,9 +20,11 @@ use Rattle.meaning_system.specs.Writes.{open_drop, when}
 use Rattle.sys_opening.proofs.Halted.{halts-among}
 use Rattle.sys_opening.proofs.Halts.{halts-stop}
 use Rattle.sys_opening.proofs.InARow.{append-nil, folds-then, taken-first, writes-append}
+use Rattle.sys_opening.proofs.Spelling.{have-append, spelled-have}
 use Rattle.sys_opening.proofs.Taking.{taken-anywhere}
+use Rattle.sys_opening.proofs.Trying.{tries-all, tries-among}
 use Rattle.sys_opening.specs.Faults.{open_fault_of}
-use Rattle.sys_opening.specs.Halting.{Halts}
+use Rattle.sys_opening.specs.Halting.{Halts, HaveSpellings, Tries}
 use Rattle.sys_opening.specs.Owned.{Owned, folds_in, journals_of}
 use Rattle.sys_opening.specs.Resolving.{drop_writes}
 
@@ -45,10 +47,11 @@ pub record Dropping (w v : Owned) (left : List ℕ) (o n : Outside) : Type 0 whe
   pub parts : flat_map (open_drop (folds_in w)) (maps.entries (folds_in w).links.table) ≡ done ++ flat_map (drop_writes (folds_in w)) left
   pub leads : folds_on (Some (folds_in w)) done ≡ Some (folds_in v)
   pub store : v.store ≡ w.store
+  pub spelled : HaveSpellings done
   pub does : Does (journals_of w) (journals_of v) (as_writes done) None o n
 
 pub dropping-first : (w : Owned) (o : Outside) → Does (journals_of w) (journals_of w) [] None o o → Dropping w w (in_doubt (folds_in w).links.table) o o
-dropping-first w o none = record { done = []; parts = drops-in-doubt (folds_in w) (maps.entries (folds_in w).links.table); leads = refl; store = refl; does = none }
+dropping-first w o none = record { done = []; parts = drops-in-doubt (folds_in w) (maps.entries (folds_in w).links.table); leads = refl; store = refl; spelled = tt; does = none }
 
 module _ (w v : Owned) (left : List ℕ) (o n : Outside) (s : Dropping w v left o n) where
   module _ (tx : ℕ) (later : List ℕ) (is : left ≡ tx ∷ later) where
@@ -76,12 +79,13 @@ module _ (w v : Owned) (left : List ℕ) (o n : Outside) (s : Dropping w v left 
         ∙ ap (λ (ws : List Written). is_some (folds_on (Some (folds_in w)) ws)) (sym (dropping-all ∙ append_assoc s.done turn rest)) ∙ taken)
 
     module _ (u : Owned) (e : Outside) (then : (ws vs : List Write) (fault : Option AppendFault) → Does (journals_of w) (journals_of v) ws None o n → Does (journals_of v) (journals_of u) vs fault n e → Does (journals_of w) (journals_of u) (ws ++ vs) fault o e) where
-      pub dropping-more : folds_on (Some (folds_in v)) turn ≡ Some (folds_in u) → u.store ≡ v.store → Does (journals_of v) (journals_of u) (as_writes turn) None n e → Dropping w u later o e
-      dropping-more leads store does = record {
+      pub dropping-more : folds_on (Some (folds_in v)) turn ≡ Some (folds_in u) → u.store ≡ v.store → AreSpelled turn → Does (journals_of v) (journals_of u) (as_writes turn) None n e → Dropping w u later o e
+      dropping-more leads store spelled does = record {
         done = s.done ++ turn;
         parts = dropping-all;
         leads = folds-then (folds_in w) (folds_in v) s.done turn s.leads ∙ leads;
         store = store ∙ s.store;
+        spelled = have-append s.done turn s.spelled (spelled-have turn spelled);
         does = subst (λ (ws : List Write). Does (journals_of w) (journals_of u) ws None o e) (sym (writes-append s.done turn)) (then (as_writes s.done) (as_writes turn) None s.does does);
       }
 
@@ -93,6 +97,12 @@ module _ (w v : Owned) (left : List ℕ) (o n : Outside) (s : Dropping w v left 
           halts-among (journals_of w) (journals_of v) (journals_of u) o n e then stop s.done turn rest (flat_map (open_drop (folds_in w)) (maps.entries (folds_in w).links.table)) dropping-all (open_fault_of fault) s.does
           (halts-stop (journals_of v) (journals_of u) (as_writes turn) fault n e does)
 
+      pub dropping-tries : (fault : AppendFault) → AreSpelled turn → Does (journals_of v) (journals_of u) (as_writes turn) (Some fault) n e
+          → Tries (journals_of w) (journals_of u) (flat_map (open_drop (folds_in w)) (maps.entries (folds_in w).links.table)) (Some (open_fault_of fault)) o e
+      dropping-tries fault spelled does =
+          tries-among (journals_of w) (journals_of v) (journals_of u) o n e then s.done turn rest (flat_map (open_drop (folds_in w)) (maps.entries (folds_in w).links.table)) dropping-all (open_fault_of fault) s.spelled s.does
+          (tries-all (journals_of v) (journals_of u) n e turn (Some (open_fault_of fault)) (Some fault) (spelled-have turn spelled) does)
+
   -- none is left
   module _ (end : left ≡ []) where
     all-done : s.done ≡ flat_map (open_drop (folds_in w)) (maps.entries (folds_in w).links.table)
@@ -103,6 +113,9 @@ module _ (w v : Owned) (left : List ℕ) (o n : Outside) (s : Dropping w v left 
 
     pub dropping-does : Does (journals_of w) (journals_of v) (as_writes (flat_map (open_drop (folds_in w)) (maps.entries (folds_in w).links.table))) None o n
     dropping-does = subst (λ (xs : List Written). Does (journals_of w) (journals_of v) (as_writes xs) None o n) all-done s.does
+
+    pub dropping-whole : Tries (journals_of w) (journals_of v) (flat_map (open_drop (folds_in w)) (maps.entries (folds_in w).links.table)) None o n
+    dropping-whole = tries-all (journals_of w) (journals_of v) o n (flat_map (open_drop (folds_in w)) (maps.entries (folds_in w).links.table)) None None (subst (λ (xs : List Written). HaveSpellings xs) all-done s.spelled) dropping-does
 
     pub dropping-drawn : v.store.drawn ≡ w.store.drawn
     dropping-drawn = ap (λ (d : Database). d.drawn) s.store

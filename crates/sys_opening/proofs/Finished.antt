@@ -11,8 +11,8 @@ use Rattle.dl_base.specs.declared.value.LinkRow.{LinkRow}
 use Rattle.dl_codec.specs.declared.links.BranchPhase.{BranchPhase}
 use Rattle.dl_codec.specs.declared.links.BranchPhase.TheVariants as phases
 use Rattle.dl_codec.specs.declared.rows.RowsRecord.TheVariants as rows_records
-use Rattle.fm_manager.specs.Managed.{Managed, Roomier, as_writes, kept_in}
-use Rattle.fm_manager.specs.Pieces.{AreOf, CanFinish, IsDoubtful, Pieces, manager_part}
+use Rattle.fm_manager.specs.Managed.{AreSpelled, Managed, Roomier, as_writes, kept_in}
+use Rattle.fm_manager.specs.Pieces.{AreOf, CanFinish, IsDoubtful, Pieces, manager_part, settling_part}
 use Rattle.meaning_areas.specs.Branches.{Branch, branch}
 use Rattle.meaning_areas.specs.Commits.{Commit, commit_of, has_number}
 use Rattle.meaning_areas.specs.Finishing.{AreNumbered, finish_records}
@@ -29,7 +29,9 @@ use Rattle.meaning_settling.specs.Settling.{Moved}
 use Rattle.meaning_system.specs.Writes.{open_drop, open_writes}
 use Rattle.sys_opening.proofs.InARow.{taken-first}
 use Rattle.sys_opening.proofs.Placing.{with_manager}
+use Rattle.sys_opening.proofs.Spelling.{finish-spelled, spelled-have}
 use Rattle.sys_opening.proofs.Taking.{can-again, finish-last, part-managed, taken-anywhere}
+use Rattle.sys_opening.specs.Halting.{HaveSpellings}
 use Rattle.sys_opening.specs.Owned.{Owned, folds_in, journals_of}
 use Rattle.sys_opening.specs.Resolving.{Settles}
 
@@ -116,6 +118,7 @@ pub record Found (w v : Owned) (tx : ℕ) (q : Pieces) : Type 0 where
   pub moved : Moved
   pub phase : BranchPhase
   pub doubtful : IsDoubtful v.manager q.tx moved phase
+  pub pieces : AreOf q moved (kept_of (folds_in v))
   pub can : CanFinish v.manager q
   pub end : CanEnd v.store.rows q.tx
   pub writes : open_writes (folds_in w) tx (maps.get (folds_in w).links.table tx) ≡ finish_records q.tx phase moved (kept_of (folds_in v))
@@ -155,6 +158,7 @@ module _ (laws : Laws) (w : Owned) (x : Stored) (stand : IsStand (folds_in w) x)
         moved = m;
         phase = p;
         doubtful = subst (λ (k : Managed). IsDoubtful k q.tx m p) (sym r.same) (record { is = own-doubt.is; open_phase = own-doubt.open_phase });
+        pieces = subst (λ (h : Folds). AreOf q m (kept_of h)) (sym same) (record { copies = of.copies; changes = of.changes });
         can = can-again w.manager n q r may-finish;
         end = finish-ends laws f x stand has q.tx own-commit m p own-doubt.is own-doubt.open_phase;
         writes = own-writes ∙ ap (λ (h : Folds). finish_records q.tx p m (kept_of h)) (sym same);
@@ -177,6 +181,12 @@ found-does w v u tx q a fault o e does =
     subst (λ (js : Journals). Does js (journals_of u) (as_writes (open_writes (folds_in w) tx (maps.get (folds_in w).links.table tx))) fault o e) a.journals
     (subst (λ (ws : List Write). Does (journals_of v) (journals_of u) ws fault o e) (sym (ap as_writes a.writes)) does)
 
+-- and has spellings
+pub found-have : (w v : Owned) (tx : ℕ) (q : Pieces) → Found w v tx q → AreSpelled (settling_part q.tx q.copies q.changes) → HaveSpellings (open_writes (folds_in w) tx (maps.get (folds_in w).links.table tx))
+found-have w v tx q a spelled =
+    subst (λ (xs : List Written). HaveSpellings xs) (sym a.writes)
+    (spelled-have (finish_records q.tx a.phase a.moved (kept_of (folds_in v))) (finish-spelled q a.phase a.moved (kept_of (folds_in v)) a.pieces spelled))
+
 -- NOTHING IS LEFT: room alone was made
 module _ (w : Owned) (n : Managed) (r : Roomier w.manager n) (tx : ℕ) (none : open_branch (maps.get w.manager.links.links.table tx) ≡ None) where
   pub none-settles : Settles (folds_in w) (folds_in (with_manager w n)) (open_writes (folds_in w) tx (maps.get (folds_in w).links.table tx))
@@ -188,3 +198,6 @@ module _ (w : Owned) (n : Managed) (r : Roomier w.manager n) (tx : ℕ) (none : 
   none-does o does =
       subst (λ (ws : List Written). Does (journals_of w) (journals_of (with_manager w n)) (as_writes ws) None o o) (sym (nothing-left (folds_in w) tx (maps.get (folds_in w).links.table tx) none))
       (subst (λ (js : Journals). Does (journals_of w) js [] None o o) (sym (roomier-journals w n r)) does)
+
+  pub none-have : HaveSpellings (open_writes (folds_in w) tx (maps.get (folds_in w).links.table tx))
+  none-have = subst (λ (ws : List Written). HaveSpellings ws) (sym (nothing-left (folds_in w) tx (maps.get (folds_in w).links.table tx) none)) tt

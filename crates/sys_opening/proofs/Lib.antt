@@ -6,6 +6,8 @@ pub mod Records
 pub mod Refusing
 pub mod InARow
 pub mod Halted
+pub mod Spelling
+pub mod Trying
 pub mod Taking
 pub mod Ending
 pub mod Finished

@@ -18,8 +18,10 @@ use Rattle.meaning_areas.specs.Commits.{Commits}
 use Rattle.meaning_areas.specs.Copies.{Backup}
 use Rattle.meaning_areas.specs.FilesArea.{files_in, files_of, files_of_list}
 use Rattle.meaning_areas.specs.Lists.{Folds}
+use Rattle.meaning_areas.specs.Stands.{IsStand, stored_of}
 use Rattle.meaning_files.specs.Files.{Files}
 use Rattle.meaning_settling.specs.Settling.{Copies}
+use Rattle.sys_opening.specs.Begun.{AreFound}
 use Rattle.sys_opening.specs.Owned.{AreFolded, AreTold}
 
 -- ONE LIST
@@ -134,3 +136,7 @@ module _ (limit : ℕ) (js : Journals) (lists : Lists) (o n : Outside) (all : Ar
   -- one that does not fit the others
   pub unlike-told : (f : Folds) → AreFolded lists f → (a : Area) (place : ℕ) → IsUnlike f a → place ≡ (js a).length → StandForNothing x (a, place)
   unlike-told f folded a place unlike is = inr (f, folds-told f folded, unlike, is ∙ length-told a)
+
+  -- they are found, where they fit each other
+  pub found-told : (f : Folds) → AreFolded lists f → IsStand f (stored_of f) → AreFound lists f o
+  found-told f folded stand = record { read = λ a. (bytes_of x a, told a, list-at a); folded = folded; stand = stand }

@@ -17,7 +17,9 @@ use Rattle.meaning_system.specs.Writes.{open_settles, open_writes}
 use Rattle.sys_opening.proofs.Finished.{settles-none}
 use Rattle.sys_opening.proofs.Halted.{halts-among}
 use Rattle.sys_opening.proofs.InARow.{append-nil, folds-then, writes-append}
-use Rattle.sys_opening.specs.Halting.{Halts}
+use Rattle.sys_opening.proofs.Spelling.{have-append}
+use Rattle.sys_opening.proofs.Trying.{tries-all, tries-among}
+use Rattle.sys_opening.specs.Halting.{Halts, HaveSpellings, Tries}
 use Rattle.sys_opening.specs.Owned.{Owned, folds_in, journals_of}
 use Rattle.sys_opening.specs.Resolving.{Settles, commit_writes}
 use Rattle.sys_opening.specs.declared.fault.OpenFault.{OpenFault}
@@ -37,10 +39,11 @@ pub record Settling (w v : Owned) (left : List Commit) (o n : Outside) : Type 0 
   pub parts : open_settles (folds_in w) (folds_in w).rows.commits ≡ done ++ open_settles (folds_in v) left
   pub settles : Settles (folds_in w) (folds_in v) done
   pub drawn : v.store.drawn ≡ w.store.drawn
+  pub spelled : HaveSpellings done
   pub does : Does (journals_of w) (journals_of v) (as_writes done) None o n
 
 pub settling-first : (w : Owned) (o : Outside) → Does (journals_of w) (journals_of w) [] None o o → Settling w w (folds_in w).rows.commits o o
-settling-first w o none = record { done = []; parts = refl; settles = settles-none (folds_in w); drawn = refl; does = none }
+settling-first w o none = record { done = []; parts = refl; settles = settles-none (folds_in w); drawn = refl; spelled = tt; does = none }
 
 module _ (w v : Owned) (left : List Commit) (o n : Outside) (s : Settling w v left o n) where
   -- the next one
@@ -64,12 +67,13 @@ module _ (w v : Owned) (left : List Commit) (o n : Outside) (s : Settling w v le
     settling-all = s.parts ∙ ap (λ (cs : List Commit). s.done ++ open_settles (folds_in v) cs) is ∙ sym (append_assoc s.done turn (open_settles (unwrap_or (folds_on (Some (folds_in v)) turn) (folds_in v)) later))
 
     module _ (u : Owned) (e : Outside) (then : (ws vs : List Write) (fault : Option AppendFault) → Does (journals_of w) (journals_of v) ws None o n → Does (journals_of v) (journals_of u) vs fault n e → Does (journals_of w) (journals_of u) (ws ++ vs) fault o e) where
-      pub settling-more : Settles (folds_in v) (folds_in u) turn → u.store.drawn ≡ v.store.drawn → Does (journals_of v) (journals_of u) (as_writes turn) None n e → Settling w u later o e
-      settling-more settles drawn does = record {
+      pub settling-more : Settles (folds_in v) (folds_in u) turn → u.store.drawn ≡ v.store.drawn → HaveSpellings turn → Does (journals_of v) (journals_of u) (as_writes turn) None n e → Settling w u later o e
+      settling-more settles drawn have does = record {
         done = s.done ++ turn;
         parts = settling-parts (folds_in u) settles.leads;
         settles = settles-then (folds_in w) (folds_in v) (folds_in u) s.done turn s.settles settles;
         drawn = drawn ∙ s.drawn;
+        spelled = have-append s.done turn s.spelled have;
         does = subst (λ (ws : List Write). Does (journals_of w) (journals_of u) ws None o e) (sym (writes-append s.done turn)) (then (as_writes s.done) (as_writes turn) None s.does does);
       }
 
@@ -77,6 +81,9 @@ module _ (w v : Owned) (left : List Commit) (o n : Outside) (s : Settling w v le
       pub settling-halts : ((ws vs : List Write) (fault : AppendFault) → Does (journals_of w) (journals_of u) ws (Some fault) o e → Does (journals_of w) (journals_of u) (ws ++ vs) (Some fault) o e)
           → (fault : OpenFault) → Halts (journals_of v) (journals_of u) (as_writes turn) (Some fault) n e → Halts (journals_of w) (journals_of u) (as_writes (open_settles (folds_in w) (folds_in w).rows.commits)) (Some fault) o e
       settling-halts stop fault halts = halts-among (journals_of w) (journals_of v) (journals_of u) o n e then stop s.done turn settling-rest (open_settles (folds_in w) (folds_in w).rows.commits) settling-all fault s.does halts
+
+      pub settling-tries : (fault : OpenFault) → Tries (journals_of v) (journals_of u) turn (Some fault) n e → Tries (journals_of w) (journals_of u) (open_settles (folds_in w) (folds_in w).rows.commits) (Some fault) o e
+      settling-tries fault tries = tries-among (journals_of w) (journals_of v) (journals_of u) o n e then s.done turn settling-rest (open_settles (folds_in w) (folds_in w).rows.commits) settling-all fault s.spelled s.does tries
 
   -- none is left
   module _ (end : left ≡ []) where
@@ -88,6 +95,9 @@ module _ (w v : Owned) (left : List Commit) (o n : Outside) (s : Settling w v le
 
     pub settling-does : Does (journals_of w) (journals_of v) (as_writes (open_settles (folds_in w) (folds_in w).rows.commits)) None o n
     settling-does = subst (λ (xs : List Written). Does (journals_of w) (journals_of v) (as_writes xs) None o n) all-done s.does
+
+    pub settling-whole : Tries (journals_of w) (journals_of v) (open_settles (folds_in w) (folds_in w).rows.commits) None o n
+    settling-whole = tries-all (journals_of w) (journals_of v) o n (open_settles (folds_in w) (folds_in w).rows.commits) None None (subst (λ (xs : List Written). HaveSpellings xs) all-done s.spelled) settling-does
 
 -- THE COMMIT OF A TURN
 

@@ -13,8 +13,8 @@ ghost use Rattle.meaning_areas.specs.Lists.{Folds, folds_on};
 ghost use Rattle.meaning_areas.specs.Stands.{IsStand, stored_of};
 ghost use Rattle.meaning_history.specs.Reached.{HasPast};
 ghost use Rattle.meaning_system.specs.Writes.{opening};
-ghost use Rattle.sys_opening.specs.Begun.{AreFound, HasBegun};
-ghost use Rattle.sys_opening.specs.Halting.{Halts};
+ghost use Rattle.sys_opening.specs.Begun.{AreFound, HasBegun, IsOfOpening};
+ghost use Rattle.sys_opening.specs.Halting.{Halts, Tries};
 ghost use Rattle.sys_opening.specs.Owned.{AreTold, folds_in, journals_of};
 
 use crate::announce::announce;
@@ -51,6 +51,8 @@ pub fn begin<B: Bench>(alloc: Global, bench: &mut B, limit: u64) -> Result<Owner
     // However it ends, each moment before its records has images of before, and each one behind them the lists with a prefix of the
     // records that fit.
     ensures images { (lists : Lists) (f : Folds) → AreFound lists f (B.outside bench.old) → AtEveryMoment (IsInBegin limit lists (as_writes (opening f)) (B.outside bench.old)) (B.outside bench.old) (B.outside bench.new) }
+    // Those that are there have spellings, so they are read again as what they were.
+    ensures fronts { (lists : Lists) (f : Folds) → AreFound lists f (B.outside bench.old) → AtEveryMoment (IsOfOpening lists (opening f) (B.outside bench.old)) (B.outside bench.old) (B.outside bench.new) }
     ensures told { (B.outside bench.new).told ≡ (B.outside bench.old).told }
 
     // The areas stand for nothing, and nothing is written.
@@ -60,6 +62,7 @@ pub fn begin<B: Bench>(alloc: Global, bench: &mut B, limit: u64) -> Result<Owner
     // It is full at the first record of the opening that does not fit.
     ensures full { (full : Fulls) → result ≡ Err (OpenFault.Full full) → (lists : Lists) (f : Folds) → AreFound lists f (B.outside bench.old) → full_in (journals_with limit lists) (as_writes (opening f)) ≡ Some full }
     ensures stands { (full : Fulls) → result ≡ Err (OpenFault.Full full) → (lists : Lists) → AreRead lists (B.outside bench.old) → (f : Folds) × AreFound lists f (B.outside bench.old) }
+    ensures found { (full : Fulls) → result ≡ Err (OpenFault.Full full) → (x : Areas) → AreTold x (B.outside bench.old) → (lists : Lists) × (f : Folds) × AreFound lists f (B.outside bench.old) }
     ensures device { result ≡ Err OpenFault.Device → FaultCounted (B.outside bench.old) (B.outside bench.new) }
 {
     what_lists_stand_for_has_a_past();
@@ -90,6 +93,7 @@ fn write_all<B: Bench>(owners: &mut Owners, bench: &mut B) -> Result<(), OpenFau
     ensures leads { OnOk result (folds_on (Some (folds_in owners.old)) (opening (folds_in owners.old)) ≡ Some (folds_in owners.new)) }
     ensures drawn { OnOk result (owners.new.store.drawn ≡ 0) }
     ensures halts { Halts (journals_of owners.old) (journals_of owners.new) (as_writes (opening (folds_in owners.old))) (result_err result) (B.outside bench.old) (B.outside bench.new) }
+    ensures tries { Tries (journals_of owners.old) (journals_of owners.new) (opening (folds_in owners.old)) (result_err result) (B.outside bench.old) (B.outside bench.new) }
 {
     openings_ends_and_copies_are_taken();
     an_opening_leads_to_the_start();

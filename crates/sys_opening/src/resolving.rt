@@ -8,7 +8,7 @@ ghost use Rattle.db_store.specs.Store.{CanEnd};
 ghost use Rattle.dl_areas.specs.Lists.{AreReady};
 ghost use Rattle.dl_areas.specs.Writing.{Does};
 ghost use Rattle.dl_codec.specs.declared.links.BranchPhase.{BranchPhase as Phases};
-ghost use Rattle.fm_manager.specs.Managed.{as_writes};
+ghost use Rattle.fm_manager.specs.Managed.{AreSpelled, as_writes};
 ghost use Rattle.fm_manager.specs.Pieces.{CanFinish, HaveRoom, IsDoubtful};
 ghost use Rattle.meaning_areas.specs.Commits.{commit_of};
 ghost use Rattle.meaning_areas.specs.Finishing.{finish_records};
@@ -17,7 +17,7 @@ ghost use Rattle.meaning_areas.specs.Stands.{IsStand, Stored, kept_of};
 ghost use Rattle.meaning_history.specs.Reached.{HasPast};
 ghost use Rattle.meaning_settling.specs.Settling.{Moved};
 ghost use Rattle.meaning_system.specs.Writes.{open_drop, open_settles, open_writes};
-ghost use Rattle.sys_opening.specs.Halting.{Halts};
+ghost use Rattle.sys_opening.specs.Halting.{Halts, Tries};
 ghost use Rattle.sys_opening.specs.Owned.{folds_in, journals_of};
 ghost use Rattle.sys_opening.specs.Resolving.{Settles, commit_writes, drop_writes};
 
@@ -39,6 +39,7 @@ pub fn resolve<B: Bench>(owners: &mut Owners, bench: &mut B) -> Result<(), OpenF
     ensures folds { OnOk result (folds_on (Some (folds_in owners.old)) (open_settles (folds_in owners.old) (folds_in owners.old).rows.commits ++ flat_map (open_drop (folds_in owners.old)) (maps.entries (folds_in owners.old).links.table)) ≡ Some (folds_in owners.new)) }
     ensures drawn { OnOk result (owners.new.store.drawn ≡ owners.old.store.drawn) }
     ensures halts { Halts (journals_of owners.old) (journals_of owners.new) (as_writes (open_settles (folds_in owners.old) (folds_in owners.old).rows.commits ++ flat_map (open_drop (folds_in owners.old)) (maps.entries (folds_in owners.old).links.table))) (result_err result) (B.outside bench.old) (B.outside bench.new) }
+    ensures tries { Tries (journals_of owners.old) (journals_of owners.new) (open_settles (folds_in owners.old) (folds_in owners.old).rows.commits ++ flat_map (open_drop (folds_in owners.old)) (maps.entries (folds_in owners.old).links.table)) (result_err result) (B.outside bench.old) (B.outside bench.new) }
 {
     calls_follow_one_another::<B>();
     settle_all(owners, bench)?;
@@ -52,6 +53,7 @@ fn settle_all<B: Bench>(owners: &mut Owners, bench: &mut B) -> Result<(), OpenFa
     ensures settles { OnOk result (Settles (folds_in owners.old) (folds_in owners.new) (open_settles (folds_in owners.old) (folds_in owners.old).rows.commits)) }
     ensures drawn { OnOk result (owners.new.store.drawn ≡ owners.old.store.drawn) }
     ensures halts { Halts (journals_of owners.old) (journals_of owners.new) (as_writes (open_settles (folds_in owners.old) (folds_in owners.old).rows.commits)) (result_err result) (B.outside bench.old) (B.outside bench.new) }
+    ensures tries { Tries (journals_of owners.old) (journals_of owners.new) (open_settles (folds_in owners.old) (folds_in owners.old).rows.commits) (result_err result) (B.outside bench.old) (B.outside bench.new) }
 {
     calls_follow_one_another::<B>();
     for index in 0..owners.store.commits() {
@@ -67,6 +69,7 @@ fn settle_commit<B: Bench>(owners: &mut Owners, bench: &mut B, number: u64) -> R
     ensures settles { OnOk result (Settles (folds_in owners.old) (folds_in owners.new) (commit_writes (folds_in owners.old) (commit_numbered (folds_in owners.old).rows.commits number))) }
     ensures drawn { OnOk result (owners.new.store.drawn ≡ owners.old.store.drawn) }
     ensures halts { Halts (journals_of owners.old) (journals_of owners.new) (as_writes (commit_writes (folds_in owners.old) (commit_numbered (folds_in owners.old).rows.commits number))) (result_err result) (B.outside bench.old) (B.outside bench.new) }
+    ensures tries { Tries (journals_of owners.old) (journals_of owners.new) (commit_writes (folds_in owners.old) (commit_numbered (folds_in owners.old).rows.commits number)) (result_err result) (B.outside bench.old) (B.outside bench.new) }
 {
     calls_follow_one_another::<B>();
     match owners.store.commit_at(number) {
@@ -83,6 +86,7 @@ fn settle<B: Bench>(owners: &mut Owners, bench: &mut B, tx: u64) -> Result<(), O
     ensures settles { OnOk result (Settles (folds_in owners.old) (folds_in owners.new) (open_writes (folds_in owners.old) tx (maps.get (folds_in owners.old).links.table tx))) }
     ensures drawn { OnOk result (owners.new.store.drawn ≡ owners.old.store.drawn) }
     ensures halts { Halts (journals_of owners.old) (journals_of owners.new) (as_writes (open_writes (folds_in owners.old) tx (maps.get (folds_in owners.old).links.table tx))) (result_err result) (B.outside bench.old) (B.outside bench.new) }
+    ensures tries { Tries (journals_of owners.old) (journals_of owners.new) (open_writes (folds_in owners.old) tx (maps.get (folds_in owners.old).links.table tx)) (result_err result) (B.outside bench.old) (B.outside bench.new) }
 {
     a_finish_goes_on();
     openings_ends_and_copies_are_taken();
@@ -91,6 +95,7 @@ fn settle<B: Bench>(owners: &mut Owners, bench: &mut B, tx: u64) -> Result<(), O
     let Some(pieces) = owners.manager.pieces_left(tx)? else {
         return Ok(());
     };
+    pieces.are_spelled();
     finish(owners, bench, pieces)?;
     Ok(())
 }
@@ -129,6 +134,7 @@ fn drop_all<B: Bench>(owners: &mut Owners, bench: &mut B) -> Result<(), OpenFaul
     ensures folds { OnOk result (folds_on (Some (folds_in owners.old)) (flat_map (open_drop (folds_in owners.old)) (maps.entries (folds_in owners.old).links.table)) ≡ Some (folds_in owners.new)) }
     ensures drawn { OnOk result (owners.new.store.drawn ≡ owners.old.store.drawn) }
     ensures halts { Halts (journals_of owners.old) (journals_of owners.new) (as_writes (flat_map (open_drop (folds_in owners.old)) (maps.entries (folds_in owners.old).links.table))) (result_err result) (B.outside bench.old) (B.outside bench.new) }
+    ensures tries { Tries (journals_of owners.old) (journals_of owners.new) (flat_map (open_drop (folds_in owners.old)) (maps.entries (folds_in owners.old).links.table)) (result_err result) (B.outside bench.old) (B.outside bench.new) }
 {
     branches_without_a_commit_are_aborted();
     calls_follow_one_another::<B>();
@@ -145,6 +151,7 @@ fn drop_one<B: Bench>(owners: &mut Owners, bench: &mut B, tx: u64) -> Result<(),
     ensures folds { OnOk result (folds_on (Some (folds_in owners.old)) (drop_writes (folds_in owners.old) tx) ≡ Some (folds_in owners.new)) }
     ensures store { OnOk result (owners.new.store ≡ owners.old.store) }
     ensures does { Does (journals_of owners.old) (journals_of owners.new) (as_writes (drop_writes (folds_in owners.old) tx)) (result_err result) (B.outside bench.old) (B.outside bench.new) }
+    ensures spelled { AreSpelled (drop_writes (folds_in owners.old) tx) }
 {
     calls_follow_one_another::<B>();
     if owners.store.decided(tx) {

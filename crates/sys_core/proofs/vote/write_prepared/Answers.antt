@@ -3,8 +3,11 @@ use Rattle.std.specs.Result.{result_err}
 use Rattle.dl_areas.specs.Writing.{Does, Ends}
 use Rattle.dl_codec.specs.declared.links.LinksRecord.TheVariants as links_records
 use Rattle.fm_manager.specs.Managed.{Managed, as_writes}
+use Rattle.fm_links.specs.Claims.{moved}
 use Rattle.meaning_areas.specs.Lists.{Written, folds_on, in_links}
+use Rattle.meaning_system.specs.Writes.{prepared}
 use Rattle.sys_core.proofs.Entering.{on-err}
+use Rattle.sys_core.proofs.Spelled.{as-spelled, prepared-spelled}
 use Rattle.sys_core.proofs.Voted.{manager-ends, nothing-prepared, prepared-copies, prepared-taken}
 use Rattle.sys_opening.proofs.Placing.{manager-open, on-ok, with_manager}
 use Rattle.sys_opening.specs.Owned.{Owned, folds_in, journals_of}
@@ -59,3 +62,14 @@ returns-clause-ends g c =
     subst (λ (xs : List Written). Ends (journals_of w) (journals_of u) (as_writes xs) fault (O c.args.bench.now) (O c.prepare.new.bench))
     (prepared-copies c.args.tx c.args.claim.now.gives c.args.claim.now.takes c.in_ok-gives.gives c.in_ok-takes.takes (sym c.has_links.ensures ∙ c.if-not-has_links.false) c.in_ok-gives.ensures c.in_ok-takes.ensures)
     (manager-ends w (as_writes (in_links (links_records.Prepared c.args.tx c.in_ok-gives.gives c.in_ok-takes.takes) ∷ [])) fault (O c.args.bench.now) (O c.prepare.new.bench) c.requires.ready c.prepare.new.self c.prepare.ensures.ends)
+
+-- its spelling
+pub returns-then-not-has_links-clause-spelled : goal.returns-then-not-has_links-clause-spelled
+returns-then-not-has_links-clause-spelled g c kept =
+    as-spelled (prepared c.args.tx (moved c.args.claim.now.gives c.args.claim.now.takes)) []
+    (nothing-prepared c.args.tx c.args.claim.now.gives c.args.claim.now.takes (sym c.has_links.ensures ∙ c.if-not-has_links.true)) tt
+
+pub returns-clause-spelled : goal.returns-clause-spelled
+returns-clause-spelled g c kept =
+    prepared-spelled c.args.tx c.args.claim.now.gives c.args.claim.now.takes c.in_ok-gives.gives c.in_ok-takes.takes
+    (sym c.has_links.ensures ∙ c.if-not-has_links.false) c.in_ok-gives.ensures c.in_ok-takes.ensures (c.prepare.ensures.spelled kept)

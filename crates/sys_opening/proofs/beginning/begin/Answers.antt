@@ -1,4 +1,4 @@
-use Rattle.std.proofs.Common.{◌≡◌, inl, inr, ◌+◌, ℕ, List, Ok, Err, Some, None, Option, refl, sym, ◌∙◌, ap, subst, rules}
+use Rattle.std.proofs.Common.{◌≡◌, inl, inr, ◌+◌, ℕ, List, Ok, Err, Some, None, Option, refl, sym, ◌∙◌, ap, subst, arith, rules}
 use Rattle.dl_areas.specs.Lists.{Lists, Write}
 use Rattle.dl_areas.specs.Opening.{IsInBegin, IsInOpening, journals_with}
 use Rattle.dl_areas.specs.Writing.{full_in}
@@ -13,7 +13,10 @@ use Rattle.meaning_areas.specs.Stands.{stored_of}
 use Rattle.meaning_system.specs.Writes.{opening}
 use Rattle.sys_opening.proofs.Records.{opening-sound, same-folds}
 use Rattle.sys_opening.proofs.Halts.{halts-images, halts-told, risen}
-use Rattle.sys_opening.proofs.Reading.{unlike-told}
+use Rattle.sys_opening.proofs.Reading.{found-told, unlike-told}
+use Rattle.sys_opening.proofs.Spelling.{all-spelled}
+use Rattle.sys_opening.proofs.Trying.{tries-fronts, tries-whole}
+use Rattle.sys_opening.specs.Begun.{IsOfOpening}
 use Rattle.sys_opening.specs.Halting.{Halts}
 use Rattle.sys_opening.specs.Owned.{AreFolded, folds_in, journals_of}
 use Rattle.sys_opening.specs.declared.fault.OpenFault.{OpenFault}
@@ -27,6 +30,11 @@ returns-in_err-owners-clause-images g c lists f found =
     let O = g.B.Bench.outside in
     moments_more (IsInOpening (O c.args.bench.now)) (IsInBegin c.args.limit lists (as_writes (opening f)) (O c.args.bench.now)) (O c.args.bench.now) (O c.open_all.new.bench) (λ p before. inl before) c.in_err-owners.ensures.opens.moments
 
+pub returns-in_err-owners-clause-fronts : goal.returns-in_err-owners-clause-fronts
+returns-in_err-owners-clause-fronts g c lists f found =
+    let O = g.B.Bench.outside in
+    moments_more (IsInOpening (O c.args.bench.now)) (IsOfOpening lists (opening f) (O c.args.bench.now)) (O c.args.bench.now) (O c.open_all.new.bench) (λ p before. inl before) c.in_err-owners.ensures.opens.moments
+
 pub returns-in_err-owners-clause-no_store : goal.returns-in_err-owners-clause-no_store
 returns-in_err-owners-clause-no_store g c area place is x told =
     let same : c.from_residual.result ≡ Err c.in_err-owners.field-0.0 = search rules in
@@ -34,6 +42,11 @@ returns-in_err-owners-clause-no_store g c area place is x told =
 
 pub returns-in_err-owners-clause-full : goal.returns-in_err-owners-clause-full
 returns-in_err-owners-clause-full g c full is lists f found =
+    let same : c.from_residual.result ≡ Err c.in_err-owners.field-0.0 = search rules in
+    absurd (c.in_err-owners.ensures.no_full full (sym same ∙ is))
+
+pub returns-in_err-owners-clause-found : goal.returns-in_err-owners-clause-found
+returns-in_err-owners-clause-found g c full is x told =
     let same : c.from_residual.result ≡ Err c.in_err-owners.field-0.0 = search rules in
     absurd (c.in_err-owners.ensures.no_full full (sym same ∙ is))
 
@@ -51,6 +64,11 @@ pub returns-in-Ok-Some-clause-images : goal.returns-in-Ok-Some-clause-images
 returns-in-Ok-Some-clause-images g c lists f found =
     let O = g.B.Bench.outside in
     moments_more (IsInOpening (O c.args.bench.now)) (IsInBegin c.args.limit lists (as_writes (opening f)) (O c.args.bench.now)) (O c.args.bench.now) (O c.open_all.new.bench) (λ p before. inl before) c.in_ok-owners.ensures.opens.moments
+
+pub returns-in-Ok-Some-clause-fronts : goal.returns-in-Ok-Some-clause-fronts
+returns-in-Ok-Some-clause-fronts g c lists f found =
+    let O = g.B.Bench.outside in
+    moments_more (IsInOpening (O c.args.bench.now)) (IsOfOpening lists (opening f) (O c.args.bench.now)) (O c.args.bench.now) (O c.open_all.new.bench) (λ p before. inl before) c.in_ok-owners.ensures.opens.moments
 
 pub returns-in-Ok-Some-clause-no_store : goal.returns-in-Ok-Some-clause-no_store
 returns-in-Ok-Some-clause-no_store g c area place is x told =
@@ -70,6 +88,11 @@ pub returns-in-Err-clause-images : goal.returns-in-Err-clause-images
 returns-in-Err-clause-images g c lists f found =
     let O = g.B.Bench.outside in
     moments_more (IsInOpening (O c.args.bench.now)) (IsInBegin c.args.limit lists (as_writes (opening f)) (O c.args.bench.now)) (O c.args.bench.now) (O c.open_all.new.bench) (λ p before. inl before) c.in_ok-owners.ensures.opens.moments
+
+pub returns-in-Err-clause-fronts : goal.returns-in-Err-clause-fronts
+returns-in-Err-clause-fronts g c lists f found =
+    let O = g.B.Bench.outside in
+    moments_more (IsInOpening (O c.args.bench.now)) (IsOfOpening lists (opening f) (O c.args.bench.now)) (O c.args.bench.now) (O c.open_all.new.bench) (λ p before. inl before) c.in_ok-owners.ensures.opens.moments
 
 -- the records
 
@@ -105,11 +128,14 @@ returns-in-Ok-clause-begun g c =
       f,
       record {
         read = λ told are. c.open_areas_have_their_lists.ensures.lists c.args.limit js opened.0 told o m opened.1 are;
+        found = λ x told. found-told c.args.limit js opened.0 (O o) (O m) opened.1 x told f opened.2 stand;
+        faults = omega (arith, opened.1.opens.moments.faults, does.faults);
         folded = opened.2;
         stand = stand;
         begun = c.an_opening_writes_its_records.ensures.begun c.args.limit js ks opened.0 (as_writes (opening f)) o m n opened.1 does;
         kept = does.done refl opened.0 (c.open_areas_have_their_lists.ensures.kept c.args.limit js opened.0 o m opened.1);
         leads = c.in-Ok.ensures.leads;
+        spelled = all-spelled (opening f) js (does.fits refl) (tries-whole js ks (O m) (O n) (opening f) c.in-Ok.ensures.tries);
         sound = opening-sound c.an_opening_leads_to_the_start.ensures.leads f (folds_in c.write_all.new.owners) (stored_of f) stand past c.in-Ok.ensures.leads;
         drawn = c.in-Ok.ensures.drawn;
       },
@@ -131,6 +157,21 @@ returns-in-Ok-clause-images g c lists f found =
     (halts-images js ks ws (O m) (O n) c.args.limit lists (O o) (λ us fault d. c.an_opening_writes_its_records.ensures.images c.args.limit js ks opened.0 lists us fault o m n opened.1 d found.read)
     None c.in-Ok.ensures.halts)
 
+pub returns-in-Ok-clause-fronts : goal.returns-in-Ok-clause-fronts
+returns-in-Ok-clause-fronts g c lists f found =
+    let O = g.B.Bench.outside in
+    let w = c.in_ok-owners.owners in
+    let opened = c.in_ok-owners.ensures.opened in
+    let js = journals_of w in
+    let ks = journals_of c.write_all.new.owners in
+    let o = c.args.bench.now in
+    let m = c.open_all.new.bench in
+    let n = c.write_all.new.bench in
+    let same = same-folds opened.0 lists (folds_in w) f (c.open_areas_have_their_lists.ensures.lists c.args.limit js opened.0 lists o m opened.1 found.read) opened.2 found.folded in
+    subst (λ (h : Folds). AtEveryMoment (IsOfOpening lists (opening h) (O o)) (O o) (O n)) same
+    (tries-fronts c.args.limit lists js ks (opening (folds_in w)) None (O o) (O m) (O n) c.in-Ok.ensures.tries
+    (λ us ending d. c.an_opening_writes_its_records.ensures.images c.args.limit js ks opened.0 lists us ending o m n opened.1 d found.read))
+
 pub returns-in-Ok-clause-told : goal.returns-in-Ok-clause-told
 returns-in-Ok-clause-told g c = c.in-Ok.ensures.halts.told ∙ c.in_ok-owners.ensures.opens.told
 
@@ -149,6 +190,21 @@ returns-in-Err-write_all-clause-images g c lists f found =
     subst (λ (h : Folds). AtEveryMoment (IsInBegin c.args.limit lists (as_writes (opening h)) (O o)) (O o) (O n)) same
     (halts-images js ks ws (O m) (O n) c.args.limit lists (O o) (λ us fault d. c.an_opening_writes_its_records.ensures.images c.args.limit js ks opened.0 lists us fault o m n opened.1 d found.read)
     (Some c.in-Err-write_all.fault) c.in-Err-write_all.ensures.halts)
+
+pub returns-in-Err-write_all-clause-fronts : goal.returns-in-Err-write_all-clause-fronts
+returns-in-Err-write_all-clause-fronts g c lists f found =
+    let O = g.B.Bench.outside in
+    let w = c.in_ok-owners.owners in
+    let opened = c.in_ok-owners.ensures.opened in
+    let js = journals_of w in
+    let ks = journals_of c.write_all.new.owners in
+    let o = c.args.bench.now in
+    let m = c.open_all.new.bench in
+    let n = c.write_all.new.bench in
+    let same = same-folds opened.0 lists (folds_in w) f (c.open_areas_have_their_lists.ensures.lists c.args.limit js opened.0 lists o m opened.1 found.read) opened.2 found.folded in
+    subst (λ (h : Folds). AtEveryMoment (IsOfOpening lists (opening h) (O o)) (O o) (O n)) same
+    (tries-fronts c.args.limit lists js ks (opening (folds_in w)) (Some c.in-Err-write_all.fault) (O o) (O m) (O n) c.in-Err-write_all.ensures.tries
+    (λ us ending d. c.an_opening_writes_its_records.ensures.images c.args.limit js ks opened.0 lists us ending o m n opened.1 d found.read))
 
 pub returns-in-Err-write_all-clause-told : goal.returns-in-Err-write_all-clause-told
 returns-in-Err-write_all-clause-told g c =
@@ -187,6 +243,16 @@ returns-in-Err-write_all-clause-full g c full is lists f found =
     subst (λ (h : Folds). full_in (journals_with c.args.limit lists) (as_writes (opening h)) ≡ Some full) same
     (c.an_opening_writes_its_records.ensures.full c.args.limit js ks opened.0 lists ws full o m n opened.1
     (subst (λ (e : OpenFault). Halts js ks ws (Some e) (O m) (O n)) at c.in-Err-write_all.ensures.halts) found.read)
+
+pub returns-in-Err-write_all-clause-found : goal.returns-in-Err-write_all-clause-found
+returns-in-Err-write_all-clause-found g c full is x told =
+    let O = g.B.Bench.outside in
+    let w = c.in_ok-owners.owners in
+    let opened = c.in_ok-owners.ensures.opened in (
+      opened.0,
+      folds_in w,
+      found-told c.args.limit (journals_of w) opened.0 (O c.args.bench.now) (O c.open_all.new.bench) opened.1 x told (folds_in w) opened.2 (c.in-Ok-None.ensures.fits (ap (λ (a : Option Area). Ok a) c.in-Ok-None.field-0-is)),
+    )
 
 pub returns-in-Err-write_all-clause-stands : goal.returns-in-Err-write_all-clause-stands
 returns-in-Err-write_all-clause-stands g c full is lists read =

@@ -9,8 +9,10 @@ use Rattle.meaning_system.specs.Writes.{opening}
 use Rattle.sys_opening.proofs.Records.{behind, behind-counted, counted, counted-stand, counts, opening-leads}
 use Rattle.sys_opening.proofs.Halts.{halts-stop, halts-then}
 use Rattle.sys_opening.proofs.Placing.{on-any, on-ok}
+use Rattle.sys_opening.proofs.Spelling.{counts-have}
+use Rattle.sys_opening.proofs.Trying.{tries-all, tries-behind, tries-more}
 use Rattle.sys_opening.specs.Faults.{open_fault_of}
-use Rattle.sys_opening.specs.Halting.{Halts}
+use Rattle.sys_opening.specs.Halting.{Halts, Tries}
 use Rattle.sys_opening.specs.Owned.{folds_in, journals_of}
 use Rattle.sys_opening.specs.declared.fault.OpenFault.{OpenFault}
 use Rattle.sys_opening.proofs.beginning.write_all.Goals as goal
@@ -61,3 +63,29 @@ returns-in-Err-clause-halts g c =
     subst (λ (e : OpenFault). Halts js ks (as_writes (opening f)) (Some e) (O c.args.bench.now) (O c.announce.new.bench)) made
     (halts-stop js ks (as_writes (opening f)) c.in-Err.fault (O c.args.bench.now) (O c.announce.new.bench)
     (c.calls_follow_one_another.ensures.stop js ks (as_writes (counts f)) (as_writes (behind f)) c.in-Err.fault c.args.bench.now c.announce.new.bench c.in-Err.ensures.does))
+
+pub returns-in-Ok-clause-tries : goal.returns-in-Ok-clause-tries
+returns-in-Ok-clause-tries g c =
+    let O = g.B.Bench.outside in
+    let f = folds_in c.args.owners.now in
+    let laws = c.openings_ends_and_copies_are_taken.ensures in
+    let js = journals_of c.args.owners.now in
+    let ks = journals_of c.announce.new.owners in
+    let ls = journals_of c.resolve.new.owners in
+    let same : behind (folds_in c.announce.new.owners) ≡ behind f =
+    ap behind c.in-Ok.ensures.folds ∙ behind-counted laws.rows laws.links f (stored_of f) c.requires.stand c.requires.past c.an_opening_goes_by_its_present_lists.ensures.settles in
+    tries-behind js ks ls (O c.args.bench.now) (O c.announce.new.bench) (O c.resolve.new.bench)
+    (λ ws vs fault. c.calls_follow_one_another.ensures.then js ks ls ws vs fault c.args.bench.now c.announce.new.bench c.resolve.new.bench)
+    (counts f) (behind f) (opening f) refl (result_err c.resolve.result) (counts-have f) c.in-Ok.ensures.does
+    (subst (λ (xs : List Written). Tries ks ls xs (result_err c.resolve.result) (O c.announce.new.bench) (O c.resolve.new.bench)) same c.resolve.ensures.tries)
+
+pub returns-in-Err-clause-tries : goal.returns-in-Err-clause-tries
+returns-in-Err-clause-tries g c =
+    let O = g.B.Bench.outside in
+    let f = folds_in c.args.owners.now in
+    let js = journals_of c.args.owners.now in
+    let ks = journals_of c.announce.new.owners in
+    let made : open_fault_of c.in-Err.fault ≡ c.from.result = sym c.from.ensures in
+    subst (λ (e : OpenFault). Tries js ks (opening f) (Some e) (O c.args.bench.now) (O c.announce.new.bench)) made
+    (tries-more js ks (O c.args.bench.now) (O c.announce.new.bench) (counts f) (behind f) (open_fault_of c.in-Err.fault)
+    (tries-all js ks (O c.args.bench.now) (O c.announce.new.bench) (counts f) (Some (open_fault_of c.in-Err.fault)) (Some c.in-Err.fault) (counts-have f) c.in-Err.ensures.does))

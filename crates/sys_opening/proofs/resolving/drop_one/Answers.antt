@@ -6,6 +6,7 @@ use Rattle.fm_manager.specs.Managed.{as_writes}
 use Rattle.meaning_areas.specs.Lists.{Written, folds_on, in_links}
 use Rattle.sys_opening.proofs.Dropping.{dropped-not, dropped-so, dropped-taken}
 use Rattle.sys_opening.proofs.Placing.{manager-does, manager-open, on-ok, with_manager}
+use Rattle.sys_opening.proofs.Spelling.{drop-spelled}
 use Rattle.sys_opening.specs.Owned.{Owned, folds_in, journals_of}
 use Rattle.sys_opening.proofs.resolving.drop_one.Goals as goal
 
@@ -21,6 +22,12 @@ returns-then-decided-clause-does g c =
     subst (λ (xs : List Written). Does (journals_of w) (journals_of w) (as_writes xs) None (O c.args.bench.now) (O c.args.bench.now))
     (sym (dropped-not (folds_in w) c.args.tx c.decided.result c.decided.ensures c.if-decided.true))
     (c.calls_follow_one_another.ensures.none (journals_of w) c.args.bench.now)
+
+pub returns-then-decided-clause-spelled : goal.returns-then-decided-clause-spelled
+returns-then-decided-clause-spelled g c = drop-spelled (folds_in c.args.owners.now) c.args.tx c.ranges.tx.fits
+
+pub returns-clause-spelled : goal.returns-clause-spelled
+returns-clause-spelled g c = drop-spelled (folds_in c.args.owners.now) c.args.tx c.ranges.tx.fits
 
 pub abort-requires-clause-ready : goal.abort-requires-clause-ready
 abort-requires-clause-ready g c = manager-open c.args.owners.now (g.B.Bench.outside c.args.bench.now) c.requires.ready

@@ -4,6 +4,7 @@ use Rattle.dl_areas.specs.Writing.{Does}
 use Rattle.fm_manager.specs.Managed.{IsTakenBy, as_writes}
 use Rattle.meaning_areas.specs.Lists.{folds_on}
 use Rattle.sys_core.proofs.RollingBack.{aborts}
+use Rattle.sys_core.proofs.Spelled.{aborts-spelled}
 use Rattle.sys_opening.proofs.Placing.{manager-does, manager-open, on-ok, with_manager}
 use Rattle.sys_opening.specs.Owned.{Owned, folds_in, journals_of}
 use Rattle.sys_core.proofs.engine.Engine.abort.Goals as goal
@@ -38,3 +39,9 @@ returns-clause-does g c =
     let fault = result_err c.abort.result in
     subst (λ (b : Bool). Does (journals_of w) (journals_of u) (as_writes (aborts b c.args.tx)) fault (O c.args.bench.now) (O c.abort.new.bench)) (sym c.if-not-branch.false)
     (manager-does w (as_writes (aborts true c.args.tx)) fault (O c.args.bench.now) (O c.abort.new.bench) c.requires.ready c.abort.new.self c.abort.ensures.does)
+
+pub returns-then-not-branch-clause-spelled : goal.returns-then-not-branch-clause-spelled
+returns-then-not-branch-clause-spelled g c = aborts-spelled c.args.tx c.ranges.tx.fits c.args.branch
+
+pub returns-clause-spelled : goal.returns-clause-spelled
+returns-clause-spelled g c = aborts-spelled c.args.tx c.ranges.tx.fits c.args.branch

@@ -4,6 +4,7 @@ use Rattle.dl_base.specs.declared.step.Step.TheVariants as steps
 use Rattle.fs_files.specs.Store.{Catalog}
 use Rattle.meaning_files.specs.Commands.{refusal_of}
 use Rattle.sys_core.proofs.Commanding.{failed, refusal-found, refused}
+use Rattle.sys_core.proofs.Spelled.{refused-spelled}
 use Rattle.sys_opening.specs.Owned.{journals_of}
 use Rattle.sys_core.proofs.engine.Engine.command.Goals as goal
 
@@ -14,6 +15,9 @@ returns-in_err-refusal g c = record {
       let w = c.args.self.now in
       let e : c.from_residual.result ≡ Err faults.Memory = search rules in
       failed first w s (steps.File c.args.cmd) (O c.args.bench.now) is (c.calls_follow_one_another.ensures.none (journals_of w.owners) c.args.bench.now) c.from_residual.result e;
+  spelled = λ kept first s is.
+      let e : c.from_residual.result ≡ Err faults.Memory = search rules in
+      absurd (kept e);
 }
 
 pub returns-in-Some : goal.returns-in-Some
@@ -22,6 +26,10 @@ returns-in-Some g c = record {
       let O = g.B.Bench.outside in
       let w = c.args.self.now in
       refused first w s is c.args.cmd (O c.args.bench.now) (c.calls_follow_one_another.ensures.none (journals_of w.owners) c.args.bench.now) c.in-Some.refusal
+      (refusal-found first w s is c.args.cmd c.forbids-forbidden.result c.in_ok-refusal.field-0 (c.forbids-forbidden.ensures first s is) (c.in_ok-refusal.ensures.value ∙ ap (λ (k : Catalog). refusal_of k.files c.forbids-forbidden.result c.args.cmd.user c.args.cmd.what) c.files.ensures) ∙ c.in-Some.is);
+  spelled = λ kept first s is.
+      let w = c.args.self.now in
+      refused-spelled s c.args.cmd c.in-Some.refusal
       (refusal-found first w s is c.args.cmd c.forbids-forbidden.result c.in_ok-refusal.field-0 (c.forbids-forbidden.ensures first s is) (c.in_ok-refusal.ensures.value ∙ ap (λ (k : Catalog). refusal_of k.files c.forbids-forbidden.result c.args.cmd.user c.args.cmd.what) c.files.ensures) ∙ c.in-Some.is);
 }
 
@@ -35,5 +43,8 @@ pub returns : goal.returns
 returns g c = record {
   steps = λ first s is.
       let w = c.args.self.now in
-      c.obey.ensures first s is (refusal-found first w s is c.args.cmd c.forbids-forbidden.result c.in_ok-refusal.field-0 (c.forbids-forbidden.ensures first s is) (c.in_ok-refusal.ensures.value ∙ ap (λ (k : Catalog). refusal_of k.files c.forbids-forbidden.result c.args.cmd.user c.args.cmd.what) c.files.ensures) ∙ c.in_default.is);
+      c.obey.ensures.steps first s is (refusal-found first w s is c.args.cmd c.forbids-forbidden.result c.in_ok-refusal.field-0 (c.forbids-forbidden.ensures first s is) (c.in_ok-refusal.ensures.value ∙ ap (λ (k : Catalog). refusal_of k.files c.forbids-forbidden.result c.args.cmd.user c.args.cmd.what) c.files.ensures) ∙ c.in_default.is);
+  spelled = λ kept first s is.
+      let w = c.args.self.now in
+      c.obey.ensures.spelled kept first s is (refusal-found first w s is c.args.cmd c.forbids-forbidden.result c.in_ok-refusal.field-0 (c.forbids-forbidden.ensures first s is) (c.in_ok-refusal.ensures.value ∙ ap (λ (k : Catalog). refusal_of k.files c.forbids-forbidden.result c.args.cmd.user c.args.cmd.what) c.files.ensures) ∙ c.in_default.is);
 }

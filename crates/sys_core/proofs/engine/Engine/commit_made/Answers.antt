@@ -2,6 +2,7 @@ use Rattle.std.proofs.Common.{◌+◌, [], length}
 use Rattle.dl_base.specs.declared.area.Area.TheVariants.{Rows}
 use Rattle.meaning_areas.specs.Commits.{tables_after}
 use Rattle.sys_core.proofs.Deciding.{commit-done, commit-fault, commit-taken, room-for-one}
+use Rattle.sys_core.proofs.Spelled.{commit-spelled}
 use Rattle.sys_seats.specs.Seats.{all_of, votes_of}
 use Rattle.sys_core.proofs.engine.Engine.commit_made.Goals as goal
 
@@ -26,6 +27,7 @@ returns-in-Ok g c = record {
       let e = c.in-Ok.ensures in
       commit-done c.each_step_leads_on.ensures.kept first w s session c.args.tx t c.args.pieces b (λ r tx t. c.handles_lead_to_merged_tables.ensures.distinct (tables_after [] r.commits) t.base t.copy (length r.commits + 1)) c.each_step_leads_on.ensures.merged to c.args.made own
       c.claims_behind_steps_of_a_session.ensures.decide c.seats_count_together.ensures.put c.commit.new.self c.change_stage.new.self c.in-Ok.number (O c.args.bench.now) (O c.commit.new.bench) c.requires.ready e.value e.rows e.same.0 e.spare c.change_stage.ensures.seats e.does;
+  spelled = λ first s session t b to own. commit-spelled first c.args.self.now s session c.args.tx t c.args.pieces b to c.args.made own c.in-Ok.ensures.spelled;
 }
 
 pub returns-in-Err : goal.returns-in-Err
@@ -35,4 +37,5 @@ returns-in-Err g c = record {
       let w = c.args.self.now in
       commit-fault c.each_step_leads_on.ensures.kept first w s session c.args.tx t c.args.pieces b (λ r tx t. c.handles_lead_to_merged_tables.ensures.distinct (tables_after [] r.commits) t.base t.copy (length r.commits + 1)) c.each_step_leads_on.ensures.merged to c.args.made own
       c.commit.new.self c.in-Err.fault (O c.args.bench.now) (O c.commit.new.bench) c.requires.ready c.in-Err.ensures.does;
+  spelled = λ first s session t b to own. commit-spelled first c.args.self.now s session c.args.tx t c.args.pieces b to c.args.made own c.in-Err.ensures.spelled;
 }

@@ -1,7 +1,9 @@
-use Rattle.std.proofs.Common.{true, Ok, refl, sym, ◌∙◌, arith}
+use Rattle.std.proofs.Common.{[], true, Ok, refl, sym, ◌∙◌, arith}
 use Rattle.dl_base.specs.declared.answer.Answer.TheVariants as answers
 use Rattle.dl_base.specs.declared.step.Step.TheVariants as steps
-use Rattle.sys_core.proofs.Deciding.{changes-told, commit-state, conflict-state, decides-to, nothing-ends, nothing-state, shows-decided, shows-ended}
+use Rattle.meaning_system.specs.Writes.{writes}
+use Rattle.sys_core.proofs.Deciding.{changes-told, commit-state, conflict-state, decides-to, nothing-ends, nothing-state, nothing-writes, shows-decided, shows-ended}
+use Rattle.sys_core.proofs.Spelled.{as-spelled}
 use Rattle.sys_opening.specs.Owned.{journals_of}
 use Rattle.sys_core.proofs.engine.Engine.decide_on.Goals as goal
 
@@ -70,3 +72,26 @@ returns-in-None-clause-shows g c first s t d =
     let v = c.args.txn.now in
     let to = decides-to first w s v c.args.tx t c.args.vote d c.base.result.now c.committed.result.now.tables c.conflict.result (sym c.changes_nothing.ensures ∙ c.if-changes_nothing.false) c.base.ensures.value c.committed.ensures.tables c.conflict.ensures in
     shows-decided s v c.args.tx t c.commit_made.result d.shown d.between.is d.between.in_phase (commit-state s v.session c.args.tx t d.between.is d.between.in_phase (to.0, to.1 ∙ c.in-None.is))
+
+-- ITS RECORD HAS A SPELLING, or there is none
+
+pub returns-then-changes_nothing-clause-spelled : goal.returns-then-changes_nothing-clause-spelled
+returns-then-changes_nothing-clause-spelled g c first s t d =
+    let w = c.args.self.now in
+    let v = c.args.txn.now in
+    let same = changes-told first w s v c.args.tx t c.args.vote d true (sym c.changes_nothing.ensures ∙ c.if-changes_nothing.true) in
+    as-spelled (writes s (steps.Decide v.session)) [] (nothing-writes s v.session c.args.tx t d.between.is d.between.in_phase same) tt
+
+pub returns-in-Some-clause-spelled : goal.returns-in-Some-clause-spelled
+returns-in-Some-clause-spelled g c first s t d =
+    let w = c.args.self.now in
+    let v = c.args.txn.now in
+    let to = decides-to first w s v c.args.tx t c.args.vote d c.base.result.now c.committed.result.now.tables c.conflict.result (sym c.changes_nothing.ensures ∙ c.if-changes_nothing.false) c.base.ensures.value c.committed.ensures.tables c.conflict.ensures in
+    c.refuse_conflict.ensures.spelled first s t d.between (to.0, to.1 ∙ c.in-Some.is)
+
+pub returns-in-None-clause-spelled : goal.returns-in-None-clause-spelled
+returns-in-None-clause-spelled g c first s t d =
+    let w = c.args.self.now in
+    let v = c.args.txn.now in
+    let to = decides-to first w s v c.args.tx t c.args.vote d c.base.result.now c.committed.result.now.tables c.conflict.result (sym c.changes_nothing.ensures ∙ c.if-changes_nothing.false) c.base.ensures.value c.committed.ensures.tables c.conflict.ensures in
+    c.commit_made.ensures.spelled first s v.session t d.between (to.0, to.1 ∙ c.in-None.is) d.made

@@ -36,3 +36,12 @@ returns-clause-shows g c first s of has =
     let is = sym c.change_stage.ensures.value ∙ c.in-Some-Prepared.is ∙ ap (λ (y : Stage). Some y) c.in-Some-Prepared.field-0-is in
     let it = deciding c.seats_count_together.ensures.put first w s v c.args.tx of has c.requires.own vote is c.change_stage.new.self c.change_stage.ensures.seats in
     c.decide_on.ensures.shows first s it.0 it.1
+
+pub returns-clause-spelled : goal.returns-clause-spelled
+returns-clause-spelled g c first s of has =
+    let w = c.args.self.now in
+    let v = c.args.txn.now in
+    let vote = c.in-Some-Prepared.vote in
+    let is = sym c.change_stage.ensures.value ∙ c.in-Some-Prepared.is ∙ ap (λ (y : Stage). Some y) c.in-Some-Prepared.field-0-is in
+    let it = deciding c.seats_count_together.ensures.put first w s v c.args.tx of has c.requires.own vote is c.change_stage.new.self c.change_stage.ensures.seats in
+    c.decide_on.ensures.spelled first s it.0 it.1

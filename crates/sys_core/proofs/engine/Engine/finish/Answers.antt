@@ -2,9 +2,11 @@ use Rattle.std.proofs.Common.{sym, ◌∙◌}
 use Rattle.dl_base.specs.declared.answer.Answer.TheVariants as answers
 use Rattle.dl_base.specs.declared.answer.Refusal.TheVariants as reasons
 use Rattle.dl_base.specs.declared.step.Step.TheVariants as steps
+use Rattle.meaning_system.specs.Writes.{writes}
 use Rattle.sys_core.proofs.Knowing.{none-of, some-of}
 use Rattle.sys_core.proofs.Refused.{leaves-shown, leaves-steps, refused-none-finish, refused-phase-finish}
 use Rattle.sys_core.proofs.Seating.{seat-phase}
+use Rattle.sys_core.proofs.Spelled.{nothing-spelled}
 use Rattle.sys_opening.specs.Owned.{journals_of}
 use Rattle.sys_core.proofs.engine.Engine.finish.Goals as goal
 
@@ -38,4 +40,16 @@ returns-in_default-phase g c = record {
       let know = some-of s v c.in-Some.tx has (sym c.tx.ensures ∙ c.in-Some.is) in
       let leaves = refused-phase-finish s v.session c.in-Some.tx know.0 know.1.of c.phase.result (sym (seat-phase s w.seats c.in-Some.tx know.0 of.seats know.1.there) ∙ sym c.phase.ensures) c.in_default-phase.not-Decided in
       leaves-shown first s (steps.Finish v.session) (answers.Refused (reasons.WrongPhase c.phase.result)) leaves v has;
+  spelled = λ first s of has.
+      let w = c.args.self.now in
+      let v = c.args.txn.now in
+      let know = some-of s v c.in-Some.tx has (sym c.tx.ensures ∙ c.in-Some.is) in
+      let leaves = refused-phase-finish s v.session c.in-Some.tx know.0 know.1.of c.phase.result (sym (seat-phase s w.seats c.in-Some.tx know.0 of.seats know.1.there) ∙ sym c.phase.ensures) c.in_default-phase.not-Decided in
+      nothing-spelled (writes s (steps.Finish v.session)) leaves.records;
 }
+
+pub returns-in_default-clause-spelled : goal.returns-in_default-clause-spelled
+returns-in_default-clause-spelled g c first s of has =
+    let v = c.args.txn.now in
+    let none = none-of s v has (sym c.tx.ensures ∙ c.in_default.is) in
+    nothing-spelled (writes s (steps.Finish v.session)) (refused-none-finish s v.session none).records

@@ -35,3 +35,11 @@ returns-clause-shows g c first s of has =
     let is = sym c.change_stage.ensures.value ∙ c.in-Some-Decided.is ∙ ap (λ (y : Stage). Some y) c.in-Some-Decided.field-0-is in
     let it = finishing c.seats_count_together.ensures.put first w s v c.args.tx of has c.requires.own c.in-Some-Decided.pieces is c.change_stage.new.self c.change_stage.ensures.seats in
     shows-ended (steps.Finish v.session) s (settled_by s it.0) v c.finish_on.new.txn c.args.tx c.finish_on.result (finish-state s v.session c.args.tx it.0 it.1.is it.1.in_phase) c.finish_on.ensures.txn
+
+pub returns-clause-spelled : goal.returns-clause-spelled
+returns-clause-spelled g c first s of has =
+    let w = c.args.self.now in
+    let v = c.args.txn.now in
+    let is = sym c.change_stage.ensures.value ∙ c.in-Some-Decided.is ∙ ap (λ (y : Stage). Some y) c.in-Some-Decided.field-0-is in
+    let it = finishing c.seats_count_together.ensures.put first w s v c.args.tx of has c.requires.own c.in-Some-Decided.pieces is c.change_stage.new.self c.change_stage.ensures.seats in
+    c.finish_on.ensures.spelled first s it.0 it.1

@@ -20,5 +20,8 @@ returns-in-Ok-clause-begun g c =
 pub returns-in-Err-clause-no_store : goal.returns-in-Err-clause-no_store
 returns-in-Err-clause-no_store g c area place is = c.in-Err.ensures.no_store area place (err-as c.in-Err.fault (faults.NotAStore area place) is)
 
+pub returns-in-Err-clause-found : goal.returns-in-Err-clause-found
+returns-in-Err-clause-found g c full is = c.in-Err.ensures.found full (err-as c.in-Err.fault (faults.Full full) is)
+
 pub returns-in-Err-clause-stands : goal.returns-in-Err-clause-stands
 returns-in-Err-clause-stands g c full is = c.in-Err.ensures.stands full (err-as c.in-Err.fault (faults.Full full) is)

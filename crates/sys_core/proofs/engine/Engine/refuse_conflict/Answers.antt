@@ -1,5 +1,6 @@
 use Rattle.std.proofs.Common.{◌≡◌, ◌≤◌, ℕ, sym, ◌∙◌, ap, arith}
 use Rattle.sys_core.proofs.Deciding.{conflict-ends, conflict-fault, conflict-taken, pieces-branch}
+use Rattle.sys_core.proofs.Spelled.{conflict-spelled}
 use Rattle.sys_core.specs.declared.engine.Engine.{Engine}
 use Rattle.sys_core.proofs.engine.Engine.refuse_conflict.Goals as goal
 
@@ -29,3 +30,11 @@ returns-in-Err-clause-steps g c first s t b to =
     let O = g.B.Bench.outside in
     conflict-fault c.each_step_leads_on.ensures.kept first c.args.self.now s c.args.txn.now.session c.args.tx t c.args.pieces b c.args.refusal to c.is_some-branch.result (c.is_some-branch.ensures ∙ pieces-branch s c.args.tx t c.args.pieces b.has) c.abort.new.self c.in-Err.fault
     (O c.args.bench.now) (O c.abort.new.bench) c.in-Err.ensures.does
+
+pub returns-in-Ok-clause-spelled : goal.returns-in-Ok-clause-spelled
+returns-in-Ok-clause-spelled g c first s t b to =
+    conflict-spelled first c.args.self.now s c.args.txn.now.session c.args.tx t c.args.pieces b c.args.refusal to c.is_some-branch.result (c.is_some-branch.ensures ∙ pieces-branch s c.args.tx t c.args.pieces b.has) c.in-Ok.ensures.spelled
+
+pub returns-in-Err-clause-spelled : goal.returns-in-Err-clause-spelled
+returns-in-Err-clause-spelled g c first s t b to =
+    conflict-spelled first c.args.self.now s c.args.txn.now.session c.args.tx t c.args.pieces b c.args.refusal to c.is_some-branch.result (c.is_some-branch.ensures ∙ pieces-branch s c.args.tx t c.args.pieces b.has) c.in-Err.ensures.spelled

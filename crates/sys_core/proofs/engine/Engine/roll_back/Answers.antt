@@ -1,4 +1,4 @@
-use Rattle.std.proofs.Common.{◌≡◌, List, true, None, Some, is_some, sym, ◌∙◌, ap, subst}
+use Rattle.std.proofs.Common.{◌≡◌, List, [], true, None, Some, is_some, sym, ◌∙◌, ap, subst}
 use Rattle.dl_areas.specs.Writing.{Does}
 use Rattle.dl_base.specs.declared.answer.Answer.TheVariants as answers
 use Rattle.dl_base.specs.declared.answer.Refusal.TheVariants as reasons
@@ -7,11 +7,13 @@ use Rattle.dl_base.specs.declared.step.Step.TheVariants as steps
 use Rattle.fm_manager.specs.Managed.{as_writes}
 use Rattle.meaning_areas.specs.Lists.{Written, folds_on}
 use Rattle.meaning_system.specs.State.{is_decided}
+use Rattle.meaning_system.specs.Writes.{writes}
 use Rattle.sys_core.proofs.Behind.{behind-taken, no-rollback}
 use Rattle.sys_core.proofs.Knowing.{none-of, some-of}
 use Rattle.sys_core.proofs.Refused.{leaves-shown, leaves-steps, refused-none-rollback, refused-phase-rollback}
-use Rattle.sys_core.proofs.RollingBack.{aborts-taken, active-step, active-writes, beside-links, beside-self, prepared-step, prepared-writes, roll-back-fault, roll-back-kept, rolls-back, rolls-back-shown}
+use Rattle.sys_core.proofs.RollingBack.{aborts, aborts-taken, active-step, active-writes, beside-links, beside-self, prepared-step, prepared-writes, roll-back-fault, roll-back-kept, rolls-back, rolls-back-shown}
 use Rattle.sys_core.proofs.Seating.{seat-phase}
+use Rattle.sys_core.proofs.Spelled.{as-spelled, nothing-spelled}
 use Rattle.sys_opening.specs.Owned.{folds_in, journals_of}
 use Rattle.sys_core.proofs.engine.Engine.roll_back.Goals as goal
 
@@ -139,3 +141,44 @@ returns-in-Err-clause-steps g c first s is has =
 
 pub returns-in-Err-clause-shows : goal.returns-in-Err-clause-shows
 returns-in-Err-clause-shows g c first s is has = roll-back-kept s c.args.txn.now.session c.args.txn.now c.in-Err.fault
+
+-- THE RECORD HAS A SPELLING, or there is none
+
+pub returns-in_default-clause-spelled : goal.returns-in_default-clause-spelled
+returns-in_default-clause-spelled g c first s is has =
+    let a = c.args.txn.now in
+    nothing-spelled (writes s (steps.Rollback a.session)) (refused-none-rollback s a.session (none-of s a has (sym c.tx.ensures ∙ c.in_default.is))).records
+
+pub returns-in_default-phase-clause-spelled : goal.returns-in_default-phase-clause-spelled
+returns-in_default-phase-clause-spelled g c first s is has =
+    let a = c.args.txn.now in
+    let tx = c.in-Some.tx in
+    let k = some-of s a tx has (sym c.in-Some.ensures) in
+    let phase = sym (seat-phase s c.args.self.now.seats tx k.0 is.seats k.1.there) ∙ sym c.phase.ensures in
+    nothing-spelled (writes s (steps.Rollback a.session)) (refused-phase-rollback s a.session tx k.0 k.1.of c.phase.result phase c.in_default-phase.not-Active c.in_default-phase.not-Prepared).records
+
+pub returns-in-Active-clause-spelled : goal.returns-in-Active-clause-spelled
+returns-in-Active-clause-spelled g c first s is has =
+    let a = c.args.txn.now in
+    let tx = c.in-Some.tx in
+    let k = some-of s a tx has (sym c.in-Some.ensures) in
+    let phase : k.0.phase ≡ phases.Active = sym (seat-phase s c.args.self.now.seats tx k.0 is.seats k.1.there) ∙ sym c.in-Active.ensures in
+    as-spelled (writes s (steps.Rollback a.session)) [] (active-writes s a.session tx k.0 k.1.of phase) tt
+
+pub returns-in-Ok-clause-spelled : goal.returns-in-Ok-clause-spelled
+returns-in-Ok-clause-spelled g c first s is has =
+    let a = c.args.txn.now in
+    let tx = c.in-Some.tx in
+    let k = some-of s a tx has (sym c.in-Some.ensures) in
+    let phase : k.0.phase ≡ phases.Prepared = sym (seat-phase s c.args.self.now.seats tx k.0 is.seats k.1.there) ∙ sym c.in-Prepared.ensures in
+    let branch = c.has_branch-branch.result in
+    as-spelled (writes s (steps.Rollback a.session)) (aborts branch tx) (prepared-writes s a.session tx k.0 k.1.of phase branch (c.has_branch-branch.ensures s k.0 is.seats k.1.there phase)) c.in-Ok.ensures.spelled
+
+pub returns-in-Err-clause-spelled : goal.returns-in-Err-clause-spelled
+returns-in-Err-clause-spelled g c first s is has =
+    let a = c.args.txn.now in
+    let tx = c.in-Some.tx in
+    let k = some-of s a tx has (sym c.in-Some.ensures) in
+    let phase : k.0.phase ≡ phases.Prepared = sym (seat-phase s c.args.self.now.seats tx k.0 is.seats k.1.there) ∙ sym c.in-Prepared.ensures in
+    let branch = c.has_branch-branch.result in
+    as-spelled (writes s (steps.Rollback a.session)) (aborts branch tx) (prepared-writes s a.session tx k.0 k.1.of phase branch (c.has_branch-branch.ensures s k.0 is.seats k.1.there phase)) c.in-Err.ensures.spelled

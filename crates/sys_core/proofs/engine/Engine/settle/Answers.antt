@@ -1,4 +1,4 @@
-use Rattle.std.proofs.Common.{List, Option, None, sym, ap, subst}
+use Rattle.std.proofs.Common.{List, [], Option, None, sym, ap, subst}
 use Rattle.std.specs.Result.{result_err}
 use Rattle.dl_areas.specs.Lists.{Write}
 use Rattle.dl_areas.specs.Writing.{Does}
@@ -6,10 +6,14 @@ use Rattle.dl_base.specs.declared.step.Phase.TheVariants as phases
 use Rattle.dl_codec.specs.declared.links.BranchPhase.TheVariants as branch_phases
 use Rattle.fm_manager.specs.Managed.{as_writes}
 use Rattle.fm_manager.specs.Pieces.{Pieces}
-use Rattle.meaning_system.specs.State.{moved_of}
+use Rattle.meaning_areas.specs.Finishing.{finish_records}
+use Rattle.meaning_areas.specs.Stands.{kept_of}
+use Rattle.meaning_system.specs.State.{kept_in, moved_of}
+use Rattle.meaning_system.specs.Writes.{whole_finish}
 use Rattle.sys_core.proofs.Finishing.{finish-settles, left-finishable, no-records, nothing-settled}
+use Rattle.sys_core.proofs.Spelled.{as-spelled, finish-spelled}
 use Rattle.sys_core.specs.Between.{IsBetween}
-use Rattle.sys_opening.specs.Owned.{journals_of}
+use Rattle.sys_opening.specs.Owned.{folds_in, journals_of}
 use Rattle.sys_core.proofs.engine.Engine.settle.Goals as goal
 
 pub finish-requires-clause-fits : goal.finish-requires-clause-fits
@@ -64,3 +68,17 @@ returns-in-None-clause-does g c first s session tx t was =
     let w = c.args.self.now in
     let none = no-records c.each_step_leads_on.ensures.kept first w s session tx t (subst (λ (o : Option Pieces). IsBetween first w s session tx t phases.Decided o) c.in-None.is was) in
     subst (λ (ws : List Write). Does (journals_of w.owners) (journals_of w.owners) ws None (O c.args.bench.now) (O c.args.bench.now)) (sym (ap as_writes none)) (c.calls_follow_one_another.ensures.none (journals_of w.owners) c.args.bench.now)
+
+pub returns-in-Some-clause-spelled : goal.returns-in-Some-clause-spelled
+returns-in-Some-clause-spelled g c first s session tx t was =
+    let w = c.args.self.now in
+    let b = subst (λ (o : Option Pieces). IsBetween first w s session tx t phases.Decided o) c.in-Some.is was in
+    let laws = c.pieces_as_they_are_made.ensures in
+    let left = c.left-left.result in
+    let a = left-finishable c.each_step_leads_on.ensures.kept first w s session tx t laws.puts laws.few c.seats_count_together.ensures.taken c.in-Some.pieces b left c.left-left.ensures in
+    as-spelled (whole_finish tx (moved_of t) (kept_in s)) (finish_records left.tx branch_phases.Prepared (moved_of t) (kept_of (folds_in w.owners))) a.records
+    (finish-spelled w.owners.manager left (moved_of t) a.can a.doubtful c.are_spelled.ensures)
+
+pub returns-in-None-clause-spelled : goal.returns-in-None-clause-spelled
+returns-in-None-clause-spelled g c first s session tx t was =
+    as-spelled (whole_finish tx (moved_of t) (kept_in s)) [] (no-records c.each_step_leads_on.ensures.kept first c.args.self.now s session tx t (subst (λ (o : Option Pieces). IsBetween first c.args.self.now s session tx t phases.Decided o) c.in-None.is was)) tt

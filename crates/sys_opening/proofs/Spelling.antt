@@ -1,0 +1,169 @@
+-- WHAT HAS A SPELLING: the records of an opening and of a Finish, and those that fit.
+use Rattle.std.proofs.Common.{◌≡◌, ◌<◌, ◌+◌, ◌-◌, ◌^◌, ℕ, List, [], ◌∷◌, ◌++◌, Bool, true, false, cond, nat_lt, is_none, Option, Some, None, refl, sym, ap, subst, arith}
+use Rattle.std.proofs.lemmas.Bool.Decides.{nat_tests}
+use Rattle.std.specs.Option.{option_or}
+use Rattle.dl_areas.specs.Lists.{Journals, Write, grown_by}
+use Rattle.dl_areas.specs.Writing.{fitting, full_in, past_limit, refused, unless}
+use Rattle.dl_base.specs.declared.fault.Full.{Full}
+use Rattle.dl_base.specs.declared.fault.Full.TheVariants as fulls
+use Rattle.dl_base.specs.declared.file.FileChange.{FileChange}
+use Rattle.dl_codec.specs.Layout.{u32, u64}
+use Rattle.dl_codec.specs.Links.{links_record}
+use Rattle.dl_codec.specs.Rows.{rows_record}
+use Rattle.dl_codec.specs.declared.links.BranchPhase.{BranchPhase}
+use Rattle.dl_codec.specs.declared.links.BranchPhase.TheVariants as phases
+use Rattle.dl_codec.specs.declared.links.LinksRecord.TheVariants as links_records
+use Rattle.dl_codec.specs.declared.rows.RowsRecord.TheVariants as rows_records
+use Rattle.fm_manager.specs.Managed.{AreSpelled, IsSpelled, as_write, as_writes}
+use Rattle.fm_manager.specs.Pieces.{AreOf, Pieces, copies_written, settling_part}
+use Rattle.meaning_areas.specs.Commits.{commit_of}
+use Rattle.meaning_areas.specs.Finishing.{batch_changes, batch_of, committed_record, copy_records, finish_records}
+use Rattle.meaning_areas.specs.Lists.{Folds, Written, in_links, in_rows}
+use Rattle.meaning_opening.proofs.Plain.{none_some}
+use Rattle.meaning_settling.specs.Settling.{Kept, Moved}
+use Rattle.meaning_system.specs.Full.{most_numbers, number_full, opening_full}
+use Rattle.meaning_system.specs.Writes.{when}
+use Rattle.sys_opening.proofs.Records.{counts}
+use Rattle.sys_opening.specs.Halting.{HaveSpellings}
+use Rattle.sys_opening.specs.Resolving.{drop_writes}
+
+-- RECORDS ONE BEHIND ANOTHER
+
+spelled-append : (xs ys : List Written) → AreSpelled xs → AreSpelled ys → AreSpelled (xs ++ ys)
+spelled-append [] ys first second = second
+spelled-append (x ∷ xs) ys first second = (first.0, spelled-append xs ys first.1 second)
+
+spelled-first : (xs ys : List Written) → AreSpelled (xs ++ ys) → AreSpelled xs
+spelled-first [] ys all = tt
+spelled-first (x ∷ xs) ys all = (all.0, spelled-first xs ys all.1)
+
+spelled-last : (xs ys : List Written) → AreSpelled (xs ++ ys) → AreSpelled ys
+spelled-last [] ys all = all
+spelled-last (x ∷ xs) ys all = spelled-last xs ys all.1
+
+pub have-append : (xs ys : List Written) → HaveSpellings xs → HaveSpellings ys → HaveSpellings (xs ++ ys)
+have-append [] ys first second = second
+have-append (x ∷ xs) ys first second = (first.0, have-append xs ys first.1 second)
+
+pub spelled-have : (xs : List Written) → AreSpelled xs → HaveSpellings xs
+spelled-have [] all = tt
+spelled-have (x ∷ xs) all = (λ fits. all.0, spelled-have xs all.1)
+
+-- THE OPENINGS that have a number
+
+below : (n : ℕ) → nat_lt most_numbers n ≡ false → n < 2 ^ 32
+below n is = grind (arith, nat_tests)
+
+numbered : (n : ℕ) → opening_full n ≡ None → n < 2 ^ 32
+numbered n is = by (nat_lt most_numbers n) refl is
+  where
+    by : (b : Bool) → nat_lt most_numbers n ≡ b → cond b (Some (fulls.Openings (n - 1))) None ≡ None → n < 2 ^ 32
+    by true past e = absurd (none_some (fulls.Openings (n - 1)) (sym e))
+    by false within e = below n within
+
+rows-opening : (n : ℕ) → opening_full n ≡ None → rows_record.fits (rows_records.Opening n)
+unfolding rows_record u32
+rows-opening n is = numbered n is
+
+links-opening : (n : ℕ) → opening_full n ≡ None → links_record.fits (links_records.Opening n)
+unfolding links_record u32
+links-opening n is = numbered n is
+
+pub counts-have : (f : Folds) → HaveSpellings (counts f)
+counts-have f = (rows-opening (f.rows.opening + 1), (links-opening (f.links.opening + 1), tt))
+
+-- A FINISH whose copies, files and Done have one
+
+committed-fits : (tx : ℕ) → links_record.fits (links_records.Done tx) → links_record.fits (links_records.Committed tx)
+unfolding links_record
+committed-fits tx fits = fits
+
+ended-fits : (tx : ℕ) → links_record.fits (links_records.Done tx) → rows_record.fits (rows_records.Ended tx)
+unfolding links_record rows_record
+ended-fits tx fits = fits
+
+mark-spelled : (tx : ℕ) (p : BranchPhase) → links_record.fits (links_records.Done tx) → AreSpelled (committed_record tx p)
+mark-spelled tx phases.Prepared fits = (committed-fits tx fits, tt)
+mark-spelled tx phases.Committed fits = tt
+mark-spelled tx phases.Done fits = tt
+mark-spelled tx phases.Aborted fits = tt
+
+pub finish-spelled : (q : Pieces) (p : BranchPhase) (m : Moved) (k : Kept) → AreOf q m k → AreSpelled (settling_part q.tx q.copies q.changes) → AreSpelled (finish_records q.tx p m k)
+finish-spelled q p m k of all =
+    let done : List Written = in_links (links_records.Done q.tx) ∷ [] in
+    let behind : AreSpelled (batch_of q.tx q.changes ++ done) = spelled-last (copies_written q.copies) (batch_of q.tx q.changes ++ done) all in
+    let copies : AreSpelled (copy_records m k) = subst (λ (xs : List Written). AreSpelled xs) of.copies (spelled-first (copies_written q.copies) (batch_of q.tx q.changes ++ done) all) in
+    let batch : AreSpelled (batch_of q.tx (batch_changes m k)) = subst (λ (cs : List FileChange). AreSpelled (batch_of q.tx cs)) of.changes (spelled-first (batch_of q.tx q.changes) done behind) in
+    let fits : links_record.fits (links_records.Done q.tx) = (spelled-last (batch_of q.tx q.changes) done behind).0 in
+    spelled-append ((committed_record q.tx p ++ copy_records m k) ++ batch_of q.tx (batch_changes m k)) (in_links (links_records.Done q.tx) ∷ in_rows (rows_records.Ended q.tx) ∷ [])
+    (spelled-append (committed_record q.tx p ++ copy_records m k) (batch_of q.tx (batch_changes m k))
+    (spelled-append (committed_record q.tx p) (copy_records m k) (mark-spelled q.tx p fits) copies) batch)
+    (fits, (ended-fits q.tx fits, tt))
+
+-- A BRANCH THAT IS DROPPED
+
+aborted-fits : (tx : ℕ) → tx < 2 ^ 64 → links_record.fits (links_records.Aborted tx)
+unfolding links_record u64
+aborted-fits tx lt = lt
+
+pub drop-spelled : (f : Folds) (tx : ℕ) → tx < 2 ^ 64 → AreSpelled (drop_writes f tx)
+drop-spelled f tx lt = by (is_none (commit_of tx f.rows.commits))
+  where
+    by : (b : Bool) → AreSpelled (when b (in_links (links_records.Aborted tx) ∷ []))
+    by true = (aborted-fits tx lt, tt)
+    by false = tt
+
+-- THOSE THAT FIT have a number
+
+no-cause : (a b : Option Full) → option_or a b ≡ None → (a ≡ None) × (b ≡ None)
+no-cause (Some f) b is = absurd (none_some f (sym is))
+no-cause None b is = (refl, is)
+
+has-number : (js : Journals) (x : Written) → refused js (as_write x) ≡ None → number_full x ≡ None
+has-number js x is = (no-cause (number_full x) (past_limit js (as_write x)) is).0
+
+pub all-spelled : (xs : List Written) (js : Journals) → full_in js (as_writes xs) ≡ None → HaveSpellings xs → AreSpelled xs
+unfolding full_in
+all-spelled [] js fit have = tt
+all-spelled (x ∷ xs) js fit have =
+    let e = no-cause (refused js (as_write x)) (full_in (grown_by (as_write x) js) (as_writes xs)) fit in
+    (have.0 (has-number js x e.0), all-spelled xs (grown_by (as_write x) js) e.1 have.1)
+
+-- the first of those that fit are the first of all
+pub record Front (xs : List Written) (prefix : List Write) : Type 0 where
+  pub front : List Written
+  pub rest : List Written
+  pub parts : front ++ rest ≡ xs
+  pub spelled : AreSpelled front
+  pub same : as_writes front ≡ prefix
+
+head-same : (v w : Write) (vs ws : List Write) → v ∷ vs ≡ w ∷ ws → v ≡ w
+head-same v w vs ws e = cc
+
+tail-same : (v w : Write) (vs ws : List Write) → v ∷ vs ≡ w ∷ ws → vs ≡ ws
+tail-same v w vs ws e = cc
+
+nothing-more : (w : Write) (ws : List Write) → w ∷ ws ≡ [] → ⊥
+nothing-more w ws e = cc
+
+front-more : (x : Written) (xs : List Written) (w : Write) (ws : List Write) → IsSpelled x → as_write x ≡ w → Front xs ws → Front (x ∷ xs) (w ∷ ws)
+front-more x xs w ws spelled is f = record {
+  front = x ∷ f.front;
+  rest = f.rest;
+  parts = ap (λ (ys : List Written). x ∷ ys) f.parts;
+  spelled = (spelled, f.spelled);
+  same = λ i. is i ∷ f.same i;
+}
+
+pub fitting-front : (xs : List Written) (js : Journals) → HaveSpellings xs → (prefix rest : List Write) → prefix ++ rest ≡ fitting js (as_writes xs) → Front xs prefix
+unfolding fitting
+fitting-front xs js have [] rest parts = record { front = []; rest = xs; parts = refl; spelled = tt; same = refl }
+fitting-front [] js have (w ∷ ws) rest parts = absurd (nothing-more w (ws ++ rest) parts)
+fitting-front (x ∷ xs) js have (w ∷ ws) rest parts = by (fitting-front xs (grown_by (as_write x) js) have.1 ws rest) (refused js (as_write x)) refl parts
+  where
+    by : (ws ++ rest ≡ fitting (grown_by (as_write x) js) (as_writes xs) → Front xs ws)
+        → (o : Option Full) → refused js (as_write x) ≡ o → w ∷ (ws ++ rest) ≡ unless o (as_write x ∷ fitting (grown_by (as_write x) js) (as_writes xs)) → Front (x ∷ xs) (w ∷ ws)
+    by go (Some full) is same = absurd (nothing-more w (ws ++ rest) same)
+    by go None is same =
+        front-more x xs w ws (have.0 (has-number js x is)) (sym (head-same w (as_write x) (ws ++ rest) (fitting (grown_by (as_write x) js) (as_writes xs)) same))
+        (go (tail-same w (as_write x) (ws ++ rest) (fitting (grown_by (as_write x) js) (as_writes xs)) same))
