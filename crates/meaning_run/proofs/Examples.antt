@@ -1,0 +1,64 @@
+-- Worked rows: runs of scripts of one line or two.
+use Rattle.std.proofs.Common.{◌≡◌, ℕ, List, [], ◌∷◌, ◌++◌, codes, Some, None, refl}
+use Rattle.dl_base.specs.declared.answer.Answer.TheVariants as answers
+use Rattle.dl_base.specs.declared.answer.Refusal.TheVariants as refusals
+use Rattle.dl_base.specs.declared.file.FileCmd.{FileCmd}
+use Rattle.dl_base.specs.declared.step.Step.TheVariants as steps
+use Rattle.fs_command.specs.declared.line.FileLine.TheVariants as files
+use Rattle.meaning_run.specs.Running.{IsAtEnd, Read, after, first_run, next_step, turn, comes_to, written}
+use Rattle.meaning_script.specs.Expansion.{expansion, file}
+use Rattle.meaning_script.specs.Printed.{line_text}
+use Rattle.meaning_script.specs.declared.kind.Line.TheVariants as lines
+use Rattle.meaning_script.specs.declared.kind.Order.TheVariants as orders
+use Rattle.meaning_system.specs.Machine.{step}
+use Rattle.meaning_system.specs.State.{State}
+use Rattle.meaning_system.specs.Writes.{writes}
+
+abbrev pub bad : Read
+bad = record { actor = None; line = lines.Bad (refusals.BadLine 3) }
+
+abbrev pub blank : Read
+blank = record { actor = None; line = lines.Nothing }
+
+abbrev pub archive : Read
+archive = record { actor = None; line = lines.System orders.Archive }
+
+abbrev pub command : FileCmd → Read
+command cmd = record { actor = Some (codes "@ann"); line = lines.File (files.Command cmd) }
+
+-- a blank line is counted and not told, and a bad one is
+pub row-bad : (s : State) → (after 2 (first_run (blank ∷ bad ∷ []) s)).told ≡ line_text [] 2 (answers.Refused (refusals.BadLine 3))
+unfolding turn comes_to expansion
+row-bad s = refl
+
+-- what is not built takes no step
+pub row-archive : (s : State) → next_step (first_run (archive ∷ []) s) ≡ None
+unfolding comes_to
+row-archive s = refl
+
+pub row-not-built : (s : State) → (after 1 (first_run (archive ∷ []) s)).told ≡ line_text [] 1 (answers.Refused refusals.NotBuilt)
+unfolding turn comes_to
+row-not-built s = refl
+
+-- a command takes its step, and then its answer is told, before the next line is
+pub row-command : (s : State) (cmd : FileCmd) → next_step (first_run (command cmd ∷ bad ∷ []) s) ≡ Some (steps.File cmd)
+unfolding comes_to expansion file
+row-command s cmd = refl
+
+pub row-told : (s : State) (cmd : FileCmd) → (after 3 (first_run (command cmd ∷ bad ∷ []) s)).told ≡ line_text [] 1 (step s (steps.File cmd)).0 ++ line_text [] 2 (answers.Refused (refusals.BadLine 3))
+unfolding turn comes_to expansion file
+row-told s cmd = refl
+
+pub row-end : (s : State) (cmd : FileCmd) → IsAtEnd (after 3 (first_run (command cmd ∷ bad ∷ []) s))
+unfolding turn comes_to expansion file
+row-end s cmd = refl
+
+-- the next line begins without answers
+pub row-next : (s : State) (cmd : FileCmd) → (after 2 (first_run (command cmd ∷ command cmd ∷ []) s)).answers ≡ []
+unfolding turn comes_to expansion file
+row-next s cmd = refl
+
+-- the records of a turn are those of its step
+pub row-written : (s : State) (cmd : FileCmd) → written 1 (first_run (command cmd ∷ []) s) ≡ writes s (steps.File cmd) ++ []
+unfolding comes_to expansion file
+row-written s cmd = refl

@@ -1,0 +1,67 @@
+// What a crash leaves recovers. The functions do nothing: they carry laws.
+ghost use Rattle.std.specs.Prelude.{◌≡◌, ◌+◌, ◌<◌, ◌^◌, ◌∷◌, ◌++◌, ℕ, List, Some};
+ghost use Rattle.dl_areas.specs.Lists.{HasLists, Lists, puts};
+ghost use Rattle.dl_base.specs.Outside.{CrashState};
+ghost use Rattle.dl_base.specs.declared.step.Step as asked;
+ghost use Rattle.fm_manager.specs.Managed.{AreSpelled, as_writes};
+ghost use Rattle.meaning_areas.specs.Areas.{AreasStand};
+ghost use Rattle.meaning_areas.specs.Lists.{Folds, Written, folds_on};
+ghost use Rattle.meaning_areas.specs.Stands.{IsStand, Stored};
+ghost use Rattle.meaning_history.specs.Sound.{AreSound};
+ghost use Rattle.meaning_system.specs.Machine.{step};
+ghost use Rattle.meaning_system.specs.State.{State, stored};
+ghost use Rattle.meaning_system.specs.Writes.{opening, writes};
+ghost use Rattle.sys_opening.specs.Begun.{AreFound, IsOfOpening};
+ghost use Rattle.sys_opening.specs.Owned.{AreFolded};
+ghost use Rattle.sys_recovery.specs.Left.{EveryImageStands, IsShort, areas_of};
+
+use dl_areas::an_opening_finds_the_lists_of_its_begin;
+use dl_base::Bench;
+use dl_codec::{
+    archive_records_have_one_spelling, backup_records_have_one_spelling, layouts_are_sound,
+    links_records_have_one_spelling, rows_records_have_one_spelling,
+};
+use meaning_areas::lists_stand_for_their_core;
+use meaning_history::{each_step_leads_on, what_lists_stand_for_has_a_past};
+use meaning_opening::{a_finish_goes_on, an_opening_leads_to_the_start};
+use meaning_system::{a_state_and_its_core_have_one_stored_part, steps_keep_tables_fitting};
+
+/// WHAT IS WRITTEN IS READ. Records that have a spelling are read again from the lists behind them; and areas with lists that stand for
+/// something stand for it.
+pub fn what_is_written_is_read()
+    ensures folded { (lists : Lists) (f later : Folds) (xs : List Written) → AreFolded lists f → folds_on (Some f) xs ≡ Some later → AreSpelled xs → AreFolded (puts (as_writes xs) lists) later }
+    ensures stand { (lists : Lists) (f : Folds) (x : Stored) (p : CrashState) → AreFolded lists f → IsStand f x → HasLists lists p → AreasStand (areas_of p) x }
+{
+    archive_records_have_one_spelling();
+    backup_records_have_one_spelling();
+    layouts_are_sound();
+    links_records_have_one_spelling();
+    rows_records_have_one_spelling();
+}
+
+/// A STEP THAT IS STOPPED. The lists stand for the state before a step as long as a record of it is not there, wherever it was stopped, and
+/// for the state behind it once all are there.
+pub fn stopped_steps_stand()
+    ensures before { (first : ℕ) (f : Folds) (s : State) → AreSound first f s → IsStand f (stored s) }
+    ensures stopped { (first : ℕ) (f : Folds) (s : State) (x : asked.Step) → AreSound first f s → s.drawn + 1 < 2 ^ 32 → IsShort x → (front rest : List Written) (w : Written) → front ++ w ∷ rest ≡ writes s x
+        → (later : Folds) × (folds_on (Some f) front ≡ Some later) × IsStand later (stored s) }
+    ensures whole { (first : ℕ) (f : Folds) (s : State) (x : asked.Step) → AreSound first f s → s.drawn + 1 < 2 ^ 32 → IsShort x
+        → (later : Folds) × (folds_on (Some f) (writes s x) ≡ Some later) × IsStand later (stored (step s x).1) }
+{
+    a_state_and_its_core_have_one_stored_part();
+    lists_stand_for_their_core();
+    each_step_leads_on();
+    a_finish_goes_on();
+    steps_keep_tables_fitting();
+}
+
+/// AN OPENING THAT IS STOPPED. At each moment of an opening over areas whose images all stand for something, what a crash leaves stands
+/// for something: so the next opening finds it.
+pub fn a_stopped_opening_stands<B: Bench>()
+    ensures { (lists : Lists) (f : Folds) (o : B) (p : CrashState) → AreFound lists f (B.outside o) → EveryImageStands (B.outside o) → IsOfOpening lists (opening f) (B.outside o) p → (x : Stored) × AreasStand (areas_of p) x }
+{
+    an_opening_finds_the_lists_of_its_begin::<B>();
+    an_opening_leads_to_the_start();
+    what_lists_stand_for_has_a_past();
+    what_is_written_is_read();
+}

@@ -1,0 +1,13 @@
+pub mod Entries
+pub mod Fine
+pub mod Images
+pub mod InMemory
+pub mod Lines
+pub mod Meeting
+pub mod Named
+pub mod Phases
+pub mod Reached
+pub mod Shown
+pub mod Stepping
+pub mod Taking
+pub mod Turns
