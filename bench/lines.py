@@ -39,10 +39,14 @@ def peak_so_far(pid):
     return 0
 
 
+def place():
+    """A folder in memory, where the machine has one."""
+    return "/dev/shm" if os.path.isdir("/dev/shm") else None
+
+
 def measured(given, answers):
     """Seconds and peak bytes of one run of a script that tells so many lines."""
-    place = "/dev/shm" if os.path.isdir("/dev/shm") else None
-    folder = tempfile.mkdtemp(prefix="datalinks-bench-", dir=place)
+    folder = tempfile.mkdtemp(prefix="datalinks-bench-", dir=place())
     try:
         with open(os.path.join(folder, "script"), "wb") as out:
             out.write(given)

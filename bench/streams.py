@@ -1,7 +1,7 @@
 #!/usr/bin/env python3
 """Runs the built program where its surroundings fail: closed streams, a folder that another run has, a kill, a full disk,
 output that nobody takes, and each end that has a status of its own. It looks at the status, at what was told, and at what
-stands in the folder afterwards. Prints a line for each, and ends with 1 where one is not as it should be.
+stands in the files of the five areas afterwards. Prints a line for each, and ends with 1 where one is not as it should be.
 
     bench/streams.py [PROGRAM]
 """
@@ -16,7 +16,8 @@ import time
 
 ROOT = os.path.dirname(os.path.dirname(os.path.abspath(__file__)))
 BUILT = os.path.join(ROOT, "crates", "datalinks_main", "out", "datalinks_main")
-FILES = "datalinks.files"
+AREAS = ["datalinks.rows", "datalinks.links", "datalinks.files", "datalinks.archive", "datalinks.backups"]
+OPENED = b"\x01\0\0\0\0\0\0\0\x05\x01\0\0\0\x01\0"
 FIRST = b"@ann create /a one\n"
 READ = b"@ann read /a\n"
 READ_TOLD = b"1: bytes 3\n1| one\n"
@@ -57,14 +58,18 @@ def content(folder):
 
 
 def extends(old, new):
-    """Whether the areas still begin with the records that they had; an area's last byte is the gate that the next record opens."""
-    return all(name in new and new[name].startswith(old[name][:-1]) for name in old)
+    """Whether there are the five areas and no other file, and each still begins with the records that it had; its last byte is the gate
+    that the next record opens."""
+    return sorted(new) == sorted(AREAS) and all(new[name].startswith(old[name][:-1]) for name in old)
 
 
 def with_file(folder):
     status, told, _ = run(folder, FIRST)
     assert (status, told) == (0, b"1: ok\n"), (status, told)
-    return content(folder)
+    held = content(folder)
+    assert sorted(held) == sorted(AREAS), sorted(held)
+    assert held[AREAS[0]] == held[AREAS[1]] == OPENED and held[AREAS[3]] == held[AREAS[4]] == b"\0", held
+    return held
 
 
 def reads_again(folder):
@@ -82,6 +87,33 @@ def acknowledged(folder, told):
 
 def creates(count):
     return b"".join(b"@ann create /f%d x\n" % (i + 1) for i in range(count))
+
+
+TABLE = (
+    b"A: CREATE TABLE m (id INTEGER PRIMARY KEY, f DATALINK LINKTYPE URL FILE LINK CONTROL INTEGRITY ALL READ PERMISSION FS "
+    b"WRITE PERMISSION BLOCKED RECOVERY NO ON UNLINK RESTORE)\n"
+)
+
+
+def links(count):
+    """Line 1 makes a table, line 2n makes /fn, and line 2n + 1 links it with a row of its own."""
+    pairs = (b"@ann create /f%d x\nA: INSERT INTO m VALUES (%d, DLVALUE('http://fs1/f%d'))\n" % (n, n, n) for n in range(1, count + 1))
+    return TABLE + b"".join(pairs)
+
+
+def linked(folder, told):
+    """Whether rows and files are as the lines of `links` that were told leave them, or as one more leaves them: one row each, whose file
+    nobody writes, and no more than one file without a row."""
+    answers = told.split(b"\n")[:-1]
+    made, rows = sum(1 for a in answers[1:] if a.endswith(b": ok")), sum(1 for a in answers[1:] if a.endswith(b": ok 1"))
+    status, text, complaint = run(folder, b"A: SELECT COUNT(*) FROM m\n@ann list\n")
+    lines = text.split(b"\n")[:-1]
+    if not answers or status != 0 or lines[:1] != [b"1: rows 1"]:
+        return not answers and status == 0
+    kept = int(lines[1].split(b"| ")[1])
+    off, on = sum(1 for a in lines[3:] if a.endswith(b" ann off 1")), sum(1 for a in lines[3:] if a.endswith(b" ann on 1"))
+    steps = made + rows
+    return steps <= off + on + kept <= steps + 1 and off == kept and on <= 1
 
 
 def closed_streams():
@@ -158,6 +190,16 @@ def killed():
             process.wait()
             told = told[: told.rfind(b"\n") + 1]
             check(f"killed behind line {lines}: what was told is there", acknowledged(folder, told))
+        with tempfile.TemporaryDirectory() as folder:
+            process = subprocess.Popen([PROGRAM, "run"], cwd=folder, stdin=subprocess.PIPE, stdout=subprocess.PIPE)
+            process.stdin.write(links(1500))
+            process.stdin.close()
+            told = b"".join(process.stdout.readline() for _ in range(lines))
+            process.send_signal(signal.SIGKILL)
+            told += process.stdout.read()
+            process.wait()
+            told = told[: told.rfind(b"\n") + 1]
+            check(f"killed behind line {lines} of links: rows and files go together", linked(folder, told))
 
 
 def full_disk():
@@ -200,17 +242,17 @@ def lost_output():
 
 
 def statuses():
-    def ends(name, want, script=b"", words=("run",), files=None):
+    def ends(name, want, script=b"", words=("run",), area=None, held=None):
         with tempfile.TemporaryDirectory() as folder:
-            if files is not None:
-                with open(os.path.join(folder, FILES), "wb") as file:
-                    file.write(files)
+            if area is not None:
+                with open(os.path.join(folder, area), "wb") as file:
+                    file.write(held)
             status, told, complaint = run(folder, script, words)
             check(f"{name}: status {want}", status == want, status)
             check(f"{name}: nothing told", told == b"", told)
             check(f"{name}: its line on standard error", complaint == b"datalinks: status %d\n" % want, complaint)
-            if files is not None:
-                check(f"{name}: the area stays", content(folder)[FILES] == files)
+            if area is not None:
+                check(f"{name}: the area stays", content(folder)[area] == held)
             if want == 2:
                 check(f"{name}: no file is made", content(folder) == {})
 
@@ -220,7 +262,10 @@ def statuses():
     with tempfile.TemporaryDirectory() as folder:
         status, told, _ = run(folder, stdin=os.open(folder, os.O_RDONLY))
         check("a script that can't be read: status 4", (status, told) == (4, b""), status)
-    ends("an area that is no list of records", 5, FIRST, files=b"\x01\0\0\0\0\0\0\0\x24\x01")
+    for area in AREAS:
+        ends(f"{area} is no list of records", 5, FIRST, area=area, held=b"\x01\0\0\0\0\0\0\0\x24\x01")
+        ends(f"{area} has a record that is none", 5, FIRST, area=area, held=b"\x01\0\0\0\0\0\0\0\x01\x09\0")
+    ends("no room for an opening", 6, FIRST, words=("run", "--area", "14"))
     ends("an area that is full", 6, FIRST, words=("run", "--area", "45"))
     ends("a script that is too long", 7, b"\n" * 67108865)
 

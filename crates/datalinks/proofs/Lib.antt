@@ -1,9 +1,6 @@
-pub mod Sources
-pub mod Causes
 pub mod Complete
-pub mod Left
-pub mod Others
-pub mod Reading
-pub mod Running
-pub mod Turning
+pub mod Opened
+pub mod Passing
+pub mod Sources
+pub mod Standing
 pub mod Whole

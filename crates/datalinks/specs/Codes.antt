@@ -1,10 +1,9 @@
 -- The exit status of each end.
 use Rattle.std.specs.Prelude.{ℕ}
-use Rattle.dl_base.specs.declared.area.Area.TheVariants as areas
-use Rattle.dl_base.specs.declared.fault.BeginFault.{BeginFault}
-use Rattle.dl_base.specs.declared.fault.BeginFault.TheVariants as begins
 use Rattle.dl_base.specs.declared.fault.StepFault.{StepFault}
 use Rattle.dl_base.specs.declared.fault.StepFault.TheVariants as steps
+use Rattle.sys_opening.specs.declared.fault.OpenFault.{OpenFault}
+use Rattle.sys_opening.specs.declared.fault.OpenFault.TheVariants as opens
 use Rattle.datalinks.specs.declared.script.ScriptFault.{ScriptFault}
 use Rattle.datalinks.specs.declared.script.ScriptFault.TheVariants as scripts
 use Rattle.datalinks.specs.declared.status.Status.{Status}
@@ -33,11 +32,12 @@ IsUsage status.Usage = Unit {0}
 IsUsage status.Memory = Unit {0}
 IsUsage _ = ⊥
 
--- the end that a fault of an opening of the area Files makes, and that of a step
-abbrev pub opening_end : BeginFault → Status
-opening_end begins.Device = status.Device
-opening_end (begins.NotAJournal place) = status.NotAStore areas.Files place
-opening_end begins.Memory = status.Memory
+-- the end that a fault of an opening makes, and that of a step
+abbrev pub opening_end : OpenFault → Status
+opening_end opens.Device = status.Device
+opening_end (opens.NotAStore area place) = status.NotAStore area place
+opening_end (opens.Full full) = status.Full full
+opening_end opens.Memory = status.Memory
 
 abbrev pub step_end : StepFault → Status
 step_end steps.Device = status.Device

@@ -1,12 +1,8 @@
 -- Which ends are left where no cause of another is there.
-use Rattle.std.specs.Prelude.{◌≡◌, ℕ, List, Some, IsOk}
-use Rattle.dl_base.specs.Outside.{Outside, FaultCounted}
-use Rattle.dl_base.specs.declared.area.Area.TheVariants as areas
-use Rattle.dl_base.specs.declared.fault.Full.{Full}
-use Rattle.meaning_areas.specs.FilesArea.{files_in}
-use Rattle.meaning_files.specs.Files.{Files}
-use Rattle.meaning_script.specs.declared.turn.Turn.{Turn}
-use Rattle.datalinks.specs.Run.{IsFullAt}
+use Rattle.dl_base.specs.Outside.{Outside}
+use Rattle.meaning_areas.specs.Areas.{Areas, AreasStand}
+use Rattle.meaning_areas.specs.Stands.{Stored}
+use Rattle.sys_opening.specs.Owned.{AreTold}
 use Rattle.datalinks.specs.declared.status.Status.{Status}
 use Rattle.datalinks.specs.declared.status.Status.TheVariants as status
 
@@ -16,12 +12,7 @@ IsDone status.Done = Unit {0}
 IsDone status.Memory = Unit {0}
 IsDone _ = ⊥
 
--- No call on the bench failed, and no step's record would pass the limit of the area Files.
-pub record HasRoom (turns : List Turn) (limit : ℕ) (bodies : List (List ℕ)) (files : Files) (o n : Outside) : Type 0 where
-  pub calm : FaultCounted o n → ⊥
-  pub room : (full : Full) → IsFullAt turns bodies files limit full → ⊥
-
--- the ends of a run whose script was read, and of one whose area Files was opened
+-- the ends of a run whose script was read, and of one whose areas were opened
 abbrev pub WasRead : Status → Type 0
 WasRead status.Done = Unit {0}
 WasRead status.Device = Unit {0}
@@ -34,6 +25,6 @@ WasOpened status.Done = Unit {0}
 WasOpened (status.Full full) = Unit {0}
 WasOpened _ = ⊥
 
--- what the area Files reads as stands for some files
+-- what the areas read stands for something
 abbrev pub StandsNow : Outside → Type 0
-StandsNow o = (bytes : List ℕ) → o.reads areas.Files ≡ Some bytes → IsOk (files_in bytes)
+StandsNow o = (x : Areas) → AreTold x o → (s : Stored) × AreasStand x s

@@ -1,5 +1,5 @@
 -- A script that is read whole.
-use Rattle.std.specs.Prelude.{◌≡◌, ℕ, ◌+◌, ◌≤◌, List, [], ◌++◌, length, Option, Some}
+use Rattle.std.specs.Prelude.{◌≡◌, ℕ, ◌+◌, ◌≤◌, List, [], ◌++◌, drop, length, Option, Some}
 use Rattle.dl_base.specs.Limits.{most_script_bytes}
 use Rattle.dl_base.specs.Sources.{Took}
 
@@ -19,7 +19,8 @@ pub record TookMore (n : ℕ) (script more : List ℕ) (old new : Option (List �
   pub script_is : more ≡ script ++ bytes
   pub took : Took bytes old new
 
--- so many bytes were taken, one more than a script may have
-pub record IsTooLong (n : ℕ) (old : Option (List ℕ)) : Type 0 where
+-- so many bytes were taken and no more, which is one more than a script may have
+pub record IsTooLong (n : ℕ) (old new : Option (List ℕ)) : Type 0 where
   pub count : n ≡ most_bytes + 1
   pub longer : (left : List ℕ) → old ≡ Some left → n ≤ length left
+  pub took : (left : List ℕ) → old ≡ Some left → new ≡ Some (drop n left)

@@ -2,7 +2,6 @@
 #![tactic(auto)]
 
 mod command;
-mod line;
 mod run;
 mod script;
 mod status;

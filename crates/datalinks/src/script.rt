@@ -48,7 +48,7 @@ impl From<AllocError> for ScriptFault {
 pub fn read_script<S: Source>(alloc: Global, source: &mut S) -> Result<Vec<u8>, ScriptFault>
     ensures whole { IfOk result (λ script. IsWhole script.items (S.rest source.old) (S.rest source.new)) }
     ensures short { IfOk result (λ script. length script.items ≤ most_bytes) }
-    ensures too_long { (n : ℕ) → result ≡ Err (ScriptFault.TooLong n) → IsTooLong n (S.rest source.old) }
+    ensures too_long { (n : ℕ) → result ≡ Err (ScriptFault.TooLong n) → IsTooLong n (S.rest source.old) (S.rest source.new) }
     ensures later { S.faults source.old ≤ S.faults source.new }
     ensures cause { result ≡ Err ScriptFault.Source → RoseFrom (S.faults source.old) (S.faults source.new) }
 {

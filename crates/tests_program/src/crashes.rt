@@ -1,57 +1,102 @@
 // The machine stopped after each of its calls, and every call failing once: what is found then. In helpers the outer
 // `None` is want of memory.
-use crate::runs::{bench_of, done, first_record, numbers};
+use crate::runs::{bench_of, bench_with, done, first_record, numbers, openings};
 use datalinks::Status;
 use dl_base::{Area, List};
 use dl_bench::{Call, MemoryBench, Pick};
 use std::alloc::Global;
 
+/// A file, a row that links it, and a row that lets it go.
 fn script() -> &'static [u8] {
-    b"@ann create /a one\n@ann read /a\n@ann create /a x\n@bob delete /a\n@ann delete /a\n@ann read /a\n"
+    b"@ann create /a one\n\
+      A: CREATE TABLE m (id INTEGER PRIMARY KEY, f DATALINK LINKTYPE URL FILE LINK CONTROL INTEGRITY ALL READ PERMISSION DB WRITE PERMISSION BLOCKED RECOVERY NO ON UNLINK DELETE)\n\
+      A: INSERT INTO m VALUES (1, DLVALUE('http://fs1/a'))\n\
+      @ann delete /a\n\
+      A: DELETE FROM m\n\
+      @ann create /a two\n"
 }
 
 fn text() -> &'static [u8] {
-    b"1: ok\n2: bytes 3\n2| one\n3: refused exists /a\n4: refused not owner /a ann\n5: ok\n6: refused no file /a\n"
+    b"1: ok\n2: ok\n3: ok 1\n4: refused linked /a 1-2-1 delete\n5: ok 1\n6: ok\n"
 }
 
-/// How many bytes the text of the first line has, and of the lines before and up to the delete that is accepted.
-const CREATED: usize = 6;
+/// What is found by a look at files and rows, which tells how many of the steps are there: none, the file, the table, the row, none of
+/// them again, and the second file. The texts of the first two differ from no table at all.
+fn looks() -> [&'static [u8]; 6] {
+    [
+        b"1: ok files 0\n2: refused no table m\n",
+        b"1: ok files 1\n1| /a ann on 3\n2: refused no table m\n",
+        b"1: ok files 1\n1| /a ann on 3\n2: rows 1\n2| 0\n",
+        b"1: ok files 1\n1| /a dlfm off 3\n2: rows 1\n2| 1\n",
+        b"1: ok files 0\n2: rows 1\n2| 0\n",
+        b"1: ok files 1\n1| /a ann on 3\n2: rows 1\n2| 0\n",
+    ]
+}
 
-const DELETING: usize = 73;
+/// How many bytes are told before each of the lines whose steps lead to these, and how many once they are told.
+fn told_before() -> [usize; 6] {
+    [0, 0, 6, 12, 54, 62]
+}
 
-const DELETED: usize = 79;
+fn told_behind() -> [usize; 6] {
+    [0, 6, 12, 20, 62, 68]
+}
+
+fn look() -> &'static [u8] {
+    b"@ann list\nA: SELECT COUNT(*) FROM m\n"
+}
 
 /// How many fuses there are to try: with the last one, of one less, the run ends well.
-const FUSES: u64 = 24;
+const FUSES: u64 = 134;
 
 /// More calls than a reopening makes.
-const REOPENING: u64 = 10;
+const REOPENING: u64 = 60;
 
-/// Whether the file `/a` is there, by what a run that ended well told of it; `None` where it did not, or told another text.
-fn tells_file(status: Status, told: &[u8]) -> Option<bool> {
-    if status == Status::Done && told == b"1: bytes 3\n1| one\n".as_slice() {
-        return Some(true);
+const AREAS: [Area; 5] = [
+    Area::Rows,
+    Area::Links,
+    Area::Files,
+    Area::Archive,
+    Area::Backups,
+];
+
+/// A bench with what stands in another's areas.
+pub fn again(alloc: Global, left: &MemoryBench, fuse: Option<u64>) -> Option<MemoryBench> {
+    let mut bench = bench_with(alloc, None, fuse)?;
+    for area in AREAS {
+        bench.put(area, left.area(area)).ok()?;
     }
-    if status == Status::Done && told == b"1: refused no file /a\n".as_slice() {
-        return Some(false);
+    Some(bench)
+}
+
+/// What a look finds, in a run that ended well: what it told.
+fn found(alloc: Global, left: &MemoryBench) -> Option<MemoryBench> {
+    let (status, after) = done(alloc, b"run", look(), again(alloc, left, None)?)?;
+    if status == Status::Done {
+        return Some(after);
     }
     None
 }
 
-/// The same of a run on these Files.
-fn finds_file(alloc: Global, files: &[u8]) -> Option<bool> {
-    let bench = bench_of(alloc, files, None, None)?;
-    let (status, after) = done(alloc, b"run", b"@ann read /a", bench)?;
-    tells_file(status, after.told())
+/// Whether a look finds what some of the steps leave that go with how much was told: what was told never runs ahead, and does not lag by more
+/// than a line.
+fn goes_with(alloc: Global, left: &MemoryBench, told: usize) -> Option<bool> {
+    let after = found(alloc, left)?;
+    Some(is_as_told(after.told(), told))
 }
 
-/// Whether what was found goes with how much was told: what was told never runs ahead.
-fn goes_with(there: bool, told: usize) -> bool {
-    if there {
-        told < DELETED
-    } else {
-        told < CREATED || told >= DELETING
-    }
+fn is_as_told(seen: &[u8], told: usize) -> bool {
+    (0..6).any(|k| looks()[k] == seen && is_between(k, told))
+}
+
+/// The line of these steps is in progress, or told, and that of the next is not told whole.
+fn is_between(k: usize, told: usize) -> bool {
+    let before = told_before().get(k).copied().unwrap_or(usize::MAX);
+    let next = told_behind()
+        .get(k.saturating_add(1))
+        .copied()
+        .unwrap_or(usize::MAX);
+    before <= told && told < next
 }
 
 /// How many bytes a run told, where it ended well or with a fault of the device, and told a front of the text; at a good
@@ -65,14 +110,14 @@ fn told_front(end: &(Status, MemoryBench)) -> Option<usize> {
     None
 }
 
-/// What a crash of a run of the script leaves of Files, how it ended, and how much it told.
+/// What a crash of a run of the script leaves, how it ended, and how much it told.
 fn crashed(
     alloc: Global,
     failing: Option<(Call, u64)>,
     fuse: Option<u64>,
     pick: Pick,
 ) -> Option<(bool, usize, MemoryBench)> {
-    let bench = bench_of(alloc, b"", failing, fuse)?;
+    let bench = bench_with(alloc, failing, fuse)?;
     let end = done(alloc, b"run", script(), bench)?;
     let told = told_front(&end)?;
     let is_done = end.0 == Status::Done;
@@ -80,24 +125,36 @@ fn crashed(
     Some((is_done, told, after))
 }
 
-/// Whether a reopening of these Files that is stopped by the fuse leaves the file there.
-fn reopened(alloc: Global, files: &[u8], fuse: u64, pick: Pick) -> Option<bool> {
-    let bench = bench_of(alloc, files, None, Some(fuse))?;
-    let (_, stopped) = done(alloc, b"run", b"@ann read /a", bench)?;
+/// Whether a reopening that is stopped by the fuse leaves what goes with how much was told.
+fn reopened(
+    alloc: Global,
+    left: &MemoryBench,
+    fuse: u64,
+    (pick, told): (Pick, usize),
+) -> Option<bool> {
+    let bench = again(alloc, left, Some(fuse))?;
+    let (_, stopped) = done(alloc, b"run", b"", bench)?;
     let after = stopped.crash(pick).ok()?;
-    finds_file(alloc, after.area(Area::Files))
+    goes_with(alloc, &after, told)
 }
 
 fn picks() -> [Pick; 3] {
     [Pick::Kept, Pick::Lost, Pick::Torn]
 }
 
-/// Whether a reopening leaves what is there, after whichever of its calls it stops.
-fn reopens(alloc: Global, files: &[u8], there: bool) -> bool {
+fn pick_of(n: u64) -> Pick {
+    match n % 3 {
+        0 => Pick::Kept,
+        1 => Pick::Lost,
+        _ => Pick::Torn,
+    }
+}
+
+/// Whether a reopening does so, after each eleventh of its calls, where the first is another one for each fuse of the run.
+fn reopens(alloc: Global, left: &MemoryBench, told: usize, first: u64) -> bool {
     (0..REOPENING).all(|fuse| {
-        picks()
-            .iter()
-            .all(|pick| reopened(alloc, files, fuse, *pick) == Some(there))
+        let pick = pick_of(first.saturating_add(fuse));
+        fuse % 11 != first % 11 || reopened(alloc, left, fuse, (pick, told)) == Some(true)
     })
 }
 
@@ -105,9 +162,7 @@ fn reopens(alloc: Global, files: &[u8], there: bool) -> bool {
 /// leaves it; `None` where not.
 fn stops(alloc: Global, fuse: u64, pick: Pick) -> Option<bool> {
     let (is_done, told, after) = crashed(alloc, None, Some(fuse), pick)?;
-    let files = after.area(Area::Files);
-    let there = finds_file(alloc, files)?;
-    if goes_with(there, told) && reopens(alloc, files, there) {
+    if goes_with(alloc, &after, told)? && reopens(alloc, &after, told, fuse) {
         return Some(is_done);
     }
     None
@@ -123,53 +178,67 @@ fn a_stop_after_each_call(rt: HostRuntime) {
     }
 }
 
-/// Whether what is found after a crash of a run, of which this call failed, goes with what it told.
+/// How many calls of each kind there are in a run that ends well.
+const CALLS: [(Call, u64); 5] = [
+    (Call::Length, 5),
+    (Call::Read, 5),
+    (Call::Write, 73),
+    (Call::Sync, 44),
+    (Call::Say, 6),
+];
+
+/// Whether a run of which this call fails ends well, where what is found after a crash goes with what it told; `None` where not.
 fn fails(alloc: Global, call: (Call, u64), pick: Pick) -> Option<bool> {
-    let (_, told, after) = crashed(alloc, Some(call), None, pick)?;
-    let there = finds_file(alloc, after.area(Area::Files))?;
-    Some(goes_with(there, told))
+    let (is_done, told, after) = crashed(alloc, Some(call), None, pick)?;
+    if goes_with(alloc, &after, told)? {
+        return Some(is_done);
+    }
+    None
 }
 
 #[test]
 fn each_call_failing_once(rt: HostRuntime) {
-    for kind in [Call::Length, Call::Read, Call::Write, Call::Sync, Call::Say] {
-        for n in 1..FUSES {
+    for (kind, count) in CALLS {
+        for n in 1..count + 2 {
             for pick in picks() {
-                assert_eq!(rt; fails(rt.alloc(), (kind, n), pick), Some(true), "call {n}");
+                assert_eq!(rt;
+                    fails(rt.alloc(), (kind, n), pick),
+                    Some(n > count),
+                    "call {n}"
+                );
             }
         }
     }
 }
 
-/// The exit status of a run on these Files, which are a store or end at no record from byte 0, and stay as they are.
-fn opens(alloc: Global, files: &[u8]) -> Option<u8> {
-    let bench = bench_of(alloc, files, None, None)?;
+/// The exit status of a run on this area, which is part of a store, or is found to be none at byte 0 and stays.
+fn opens(alloc: Global, area: Area, bytes: &[u8]) -> Option<u8> {
+    let bench = bench_of(alloc, area, bytes)?;
     let (status, after) = done(alloc, b"run", b"", bench)?;
-    if after.area(Area::Files) != files && status != Status::Done {
-        return None;
-    }
-    match numbers(status) {
-        (code, 0) => Some(code),
+    let is_kept = after.area(area) == bytes;
+    match status {
+        Status::Done => Some(0),
+        Status::NotAStore(at, 0) if at == area && is_kept => Some(5),
         _ => None,
     }
 }
 
-/// The first record with one byte inverted.
-fn inverted(alloc: Global, at: usize) -> Option<List<u8>> {
+/// These bytes with another one of them.
+fn changed(alloc: Global, of: &[u8], at: usize, to: u8) -> Option<List<u8>> {
     let mut bytes = List::empty(alloc);
-    for (i, byte) in first_record().iter().enumerate() {
-        let kept = if i == at { !*byte } else { *byte };
+    for (i, byte) in of.iter().enumerate() {
+        let kept = if i == at { to } else { *byte };
         bytes.push(kept).ok()?;
     }
     Some(bytes)
 }
 
-fn opens_inverted(alloc: Global, at: usize) -> Option<u8> {
-    let bytes = inverted(alloc, at)?;
-    opens(alloc, bytes.as_slice())
+fn opens_changed(alloc: Global, area: Area, of: &[u8], (at, to): (usize, u8)) -> Option<u8> {
+    let bytes = changed(alloc, of, at, to)?;
+    opens(alloc, area, bytes.as_slice())
 }
 
-/// Only the first gate, which then is closed, the transaction, the content and the closing gate may be any bytes.
+/// Of Files only the first gate, which then is closed, the transaction, the content and the closing gate may be any bytes.
 fn may_be_any(at: usize) -> bool {
     at == 0 || (at >= 10 && at < 18) || at >= 42
 }
@@ -182,10 +251,29 @@ fn code_where(is_store: bool) -> u8 {
 fn damaged_files(rt: HostRuntime) {
     let record = first_record();
     for at in 0..record.len() {
-        let short = opens(rt.alloc(), &record[..at]);
+        let short = opens(rt.alloc(), Area::Files, &record[..at]);
         assert_eq!(rt; short, Some(code_where(at < 2)), "{at} bytes");
-        let inverted = opens_inverted(rt.alloc(), at);
+        let inverted = opens_changed(rt.alloc(), Area::Files, record, (at, !record[at]));
         assert_eq!(rt; inverted, Some(code_where(may_be_any(at))), "byte {at}");
+    }
+}
+
+/// Of the record of an opening only its first gate and the closing gate may be any bytes.
+#[test]
+fn damaged_openings(rt: HostRuntime) {
+    let record = openings()[0];
+    for area in [Area::Rows, Area::Links] {
+        for at in 0..record.len() {
+            let short = opens(rt.alloc(), area, &record[..at]);
+            assert_eq!(rt; short, Some(code_where(at < 2)), "{at} bytes");
+            let inverted = opens_changed(rt.alloc(), area, record, (at, !record[at]));
+            assert_eq!(rt;
+                inverted,
+                Some(code_where(at == 0 || at == 14)),
+                "byte {at}"
+            );
+        }
+        assert_eq!(rt; opens_changed(rt.alloc(), area, record, (8, 6)), Some(5));
     }
 }
 
@@ -203,7 +291,7 @@ fn many_lines(alloc: Global) -> Option<List<u8>> {
 /// The numbers of a run's end on that script, and whether the Files stay.
 fn too_long(alloc: Global) -> Option<((u8, u64), bool)> {
     let lines = many_lines(alloc)?;
-    let bench = bench_of(alloc, first_record(), None, None)?;
+    let bench = bench_of(alloc, Area::Files, first_record())?;
     let (status, after) = done(alloc, b"run", lines.as_slice(), bench)?;
     Some((numbers(status), after.area(Area::Files) == first_record()))
 }

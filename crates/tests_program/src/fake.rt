@@ -20,7 +20,7 @@ pub struct Plan {
     pub most: usize,
     /// A file has no room for more bytes than this.
     pub room: usize,
-    /// Calls of this letter fail.
+    /// Calls of this letter fail; o stands for each opening.
     pub failing: u8,
     /// Each call is interrupted once.
     pub interrupts: bool,
@@ -41,7 +41,12 @@ impl Plan {
     }
 
     fn note(&mut self, letter: u8) -> Result<(), Stop> {
-        if self.calls.push(letter).is_err() || self.failing == letter {
+        let kind = if letter.is_ascii_uppercase() {
+            b'o'
+        } else {
+            letter
+        };
+        if self.calls.push(letter).is_err() || self.failing == kind {
             return Err(Stop::Failed);
         }
         self.interrupted = self.interrupts && !self.interrupted;
@@ -49,6 +54,17 @@ impl Plan {
             return Err(Stop::Interrupted);
         }
         Ok(())
+    }
+}
+
+/// The letter of the opening of an area's file.
+fn letter_of(area: Area) -> u8 {
+    match area {
+        Area::Rows => b'R',
+        Area::Links => b'L',
+        Area::Files => b'F',
+        Area::Archive => b'A',
+        Area::Backups => b'B',
     }
 }
 
@@ -86,8 +102,8 @@ impl FakeHost {
         self.bench.told()
     }
 
-    /// The letters of the calls, in their order: l(ock), o(pen), d (the folder is synced), n (length), r(ead), w(rite),
-    /// s(ync), t(ell).
+    /// The letters of the calls, in their order: l(ock), d (the folder is synced), n (length), r(ead), w(rite), s(ync),
+    /// t(ell); and the letter of its area for the opening of a file.
     pub fn calls(&self) -> &[u8] {
         &self.plan.calls
     }
@@ -157,7 +173,7 @@ impl Host for FakeHost {
     }
 
     fn open(&mut self, area: Area, _name: &str) -> Result<Area, Stop> {
-        self.begin(b'o')?;
+        self.begin(letter_of(area))?;
         Ok(area)
     }
 

@@ -1,6 +1,6 @@
 // Whole runs over the folder's logic, on a host in memory.
 use crate::fake::{FakeHost, FakeReader, Plan};
-use crate::runs::words_of;
+use crate::runs::{first_record, openings, words_of};
 use datalinks::{Status, single};
 use dl_base::Area;
 use dl_host::{FolderBench, InputSource};
@@ -14,20 +14,16 @@ fn text() -> &'static [u8] {
     b"1: ok\n2: bytes 3\n2| one\n"
 }
 
-/// The area Files after the first line.
-fn record() -> &'static [u8] {
-    b"\x01\0\0\0\0\0\0\0\x24\x01\0\0\0\0\0\0\0\0\0\0\0\x01\x01\0\0\0\x02/a\0\0\0\x03ann\x01\0\0\0\0\x03one\0"
-}
-
 /// The end of a run, and what it leaves.
 #[derive(Clone, Copy)]
 struct End {
     code: u8,
     told: usize,
-    /// The whole text was told, and the file has the record.
+    /// The whole text was told, and each file has its records.
     is_whole: bool,
     calls: usize,
-    /// The folder was locked, the file opened and the folder synced before all else, and each once.
+    /// The folder was locked before all else, and once; each file was opened once, in the order of the areas; and the folder was
+    /// synced behind each of these openings, before all else, and not again.
     begins_once: bool,
 }
 
@@ -35,16 +31,38 @@ fn count(calls: &[u8], letter: u8) -> usize {
     calls.iter().filter(|c| **c == letter).count()
 }
 
+/// Each call that opens a file has the sync of the folder behind it, and no other has.
+fn is_synced(calls: &[u8]) -> bool {
+    (1..calls.len()).all(|at| calls[at - 1].is_ascii_uppercase() == (calls[at] == b'd'))
+}
+
+/// The files are opened in the order of the areas, each once.
+fn is_in_order(calls: &[u8]) -> bool {
+    let mut opened = calls.iter().filter(|call| call.is_ascii_uppercase());
+    let is_front = b"RLFAB".iter().all(|letter| opened.next() == Some(letter));
+    is_front && opened.next().is_none()
+}
+
 fn begins_once(calls: &[u8]) -> bool {
-    let firsts = [b'l', b'o', b'd'];
-    calls.starts_with(&firsts) && firsts.iter().all(|letter| count(calls, *letter) == 1)
+    let is_locked = calls.starts_with(b"lRd") && count(calls, b'l') == 1;
+    is_locked && is_in_order(calls) && is_synced(calls)
+}
+
+/// Whether Rows and Links have the record of one opening, Files that of the first line, and the others none.
+fn has_records(host: &FakeHost) -> bool {
+    let opened = openings()[0];
+    host.file(Area::Rows) == opened
+        && host.file(Area::Links) == opened
+        && host.file(Area::Files) == first_record()
+        && host.file(Area::Archive) == b"\0".as_slice()
+        && host.file(Area::Backups) == b"\0".as_slice()
 }
 
 fn end_of(status: Status, host: &FakeHost) -> End {
     End {
         code: status.code(),
         told: host.told().len(),
-        is_whole: host.told() == text() && host.file(Area::Files) == record(),
+        is_whole: host.told() == text() && has_records(host),
         calls: host.calls().len(),
         begins_once: begins_once(host.calls()),
     }

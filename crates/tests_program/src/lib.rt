@@ -7,4 +7,12 @@ pub mod fake;
 #[cfg(test)]
 mod hosts;
 #[cfg(test)]
+mod options;
+#[cfg(test)]
+mod phases;
+#[cfg(test)]
+mod reopened;
+#[cfg(test)]
 mod runs;
+#[cfg(test)]
+mod scripts;

@@ -1,8 +1,7 @@
 // Whole runs over a bench in memory. In helpers `None` is want of memory.
 use datalinks::{Status, single};
-use dl_base::{Area, FileCmd, FileWhat, List, Name, Path, Text, is_name, is_path};
+use dl_base::{Area, List, Text};
 use dl_bench::{Call, MemoryBench, MemorySource};
-use fs_files::Files;
 use std::alloc::Global;
 
 // The bytes stand in functions without a clause, which keeps them out of the goals.
@@ -10,6 +9,14 @@ use std::alloc::Global;
 /// The area Files after `@ann create /a one`, whose end is at byte 46.
 pub fn first_record() -> &'static [u8] {
     b"\x01\0\0\0\0\0\0\0\x24\x01\0\0\0\0\0\0\0\0\0\0\0\x01\x01\0\0\0\x02/a\0\0\0\x03ann\x01\0\0\0\0\x03one\0"
+}
+
+/// The area Rows, and the area Links, after one opening and after two.
+pub fn openings() -> [&'static [u8]; 2] {
+    [
+        b"\x01\0\0\0\0\0\0\0\x05\x01\0\0\0\x01\0",
+        b"\x01\0\0\0\0\0\0\0\x05\x01\0\0\0\x01\x01\0\0\0\0\0\0\0\x05\x01\0\0\0\x02\0",
+    ]
 }
 
 /// The same after `@ann rename /a /b`, a removal and a put, and `@ann chmod /b off`, a new owner and no saved one.
@@ -61,15 +68,19 @@ fn listed(alloc: Global, failing: Option<(Call, u64)>) -> Option<List<(Call, u64
     Some(list)
 }
 
-/// A bench with these Files, where the listed call fails, and each call after as many as the fuse says.
-pub fn bench_of(
+/// A bench with nothing in its areas, where the listed call fails, and each call after as many as the fuse says.
+pub fn bench_with(
     alloc: Global,
-    files: &[u8],
     failing: Option<(Call, u64)>,
     fuse: Option<u64>,
 ) -> Option<MemoryBench> {
-    let mut bench = MemoryBench::new(alloc, listed(alloc, failing)?, fuse).ok()?;
-    bench.put(Area::Files, files).ok()?;
+    MemoryBench::new(alloc, listed(alloc, failing)?, fuse).ok()
+}
+
+/// A bench with this in one area, and nothing in the others.
+pub fn bench_of(alloc: Global, area: Area, bytes: &[u8]) -> Option<MemoryBench> {
+    let mut bench = bench_with(alloc, None, None)?;
+    bench.put(area, bytes).ok()?;
     Some(bench)
 }
 
@@ -95,11 +106,10 @@ pub fn done(
     ended(alloc, words, &mut source, bench)
 }
 
-/// The exit status, and the number that some have beside it: of the area Files, and no other.
+/// The exit status, and the number that some have beside it.
 pub fn numbers(status: Status) -> (u8, u64) {
     match status {
-        Status::NotAStore(Area::Files, place) => (status.code(), place),
-        Status::NotAStore(_, _) => (status.code(), u64::MAX),
+        Status::NotAStore(_, place) => (status.code(), place),
         Status::TooLong(taken) => (status.code(), taken),
         _ => (status.code(), 0),
     }
@@ -111,13 +121,24 @@ fn leaves(end: &(Status, MemoryBench), told: &[u8], files: &[u8]) -> ((u8, u64),
     (numbers(end.0), same)
 }
 
+/// Whether Rows and Links have the records of one opening behind so many before it, and no other, and Archive and Backups none.
+fn has_opened(after: &MemoryBench, before: usize) -> bool {
+    let opened = openings().get(before).copied();
+    let areas = [Area::Rows, Area::Links];
+    let empty = [Area::Archive, Area::Backups];
+    areas.iter().all(|area| Some(after.area(*area)) == opened)
+        && empty
+            .iter()
+            .all(|area| after.area(*area) == b"\0".as_slice())
+}
+
 /// A run of these words and this script on these Files: see `leaves`.
 fn run_leaves(
     alloc: Global,
     (words, script, before): (&[u8], &[u8], &[u8]),
     (told, after): (&[u8], &[u8]),
 ) -> Option<((u8, u64), bool)> {
-    let bench = bench_of(alloc, before, None, None)?;
+    let bench = bench_of(alloc, Area::Files, before)?;
     let end = done(alloc, words, script, bench)?;
     Some(leaves(&end, told, after))
 }
@@ -155,6 +176,28 @@ fn a_rename_and_a_chmod_found_again(rt: HostRuntime) {
     assert_eq!(rt; left, Some(((0, 0), true)));
 }
 
+/// How an empty script ends that runs once and once more, and whether all areas then have what the openings wrote.
+fn opened_twice(alloc: Global) -> Option<(bool, bool)> {
+    let (_, first) = done(alloc, b"run", b"", bench_with(alloc, None, None)?)?;
+    let is_first = has_opened(&first, 0);
+    let (_, second) = done(alloc, b"run", b"", first)?;
+    Some((is_first, has_opened(&second, 1)))
+}
+
+#[test]
+fn an_empty_script_opens_five_areas(rt: HostRuntime) {
+    assert_eq!(rt; opened_twice(rt.alloc()), Some((true, true)));
+}
+
+/// An opening wants 15 bytes of Rows and of Links.
+#[test]
+fn the_limit_of_an_opening(rt: HostRuntime) {
+    let short = run_leaves(rt.alloc(), (b"run --area 14", b"", b""), (b"", b"\0"));
+    assert_eq!(rt; short, Some(((6, 0), true)));
+    let enough = run_leaves(rt.alloc(), (b"run --area 15", b"", b""), (b"", b"\0"));
+    assert_eq!(rt; enough, Some(((0, 0), true)));
+}
+
 /// With no room for the record the area has a closed gate alone.
 #[test]
 fn the_limit_of_the_area(rt: HostRuntime) {
@@ -169,8 +212,15 @@ fn the_limit_of_the_area(rt: HostRuntime) {
     assert_eq!(rt; left, Some(((0, 0), true)));
 }
 
-fn no_commands() -> [&'static [u8]; 5] {
-    [b"walk", b"run run", b"race", b"load 1 100", b"run --area 0"]
+fn no_commands() -> [&'static [u8]; 6] {
+    [
+        b"walk",
+        b"run run",
+        b"race",
+        b"load 1 100",
+        b"run --area 0",
+        b"run --now",
+    ]
 }
 
 #[test]
@@ -191,7 +241,7 @@ fn damaged_areas_stay_as_they_are(rt: HostRuntime) {
 
 /// The exit status of a run whose nth take fails, and how many bytes it told and left.
 fn without_source(alloc: Global, script: &[u8], n: u64) -> Option<(u8, usize)> {
-    let bench = bench_of(alloc, b"", None, None)?;
+    let bench = bench_with(alloc, None, None)?;
     let mut source = MemorySource::new(alloc, script, Some(n)).ok()?;
     let (status, after) = ended(alloc, b"run", &mut source, bench)?;
     Some((
@@ -208,7 +258,7 @@ fn a_source_that_fails(rt: HostRuntime) {
 }
 
 fn without_write(alloc: Global) -> Option<u8> {
-    let bench = bench_of(alloc, b"", Some((Call::Write, 2)), None)?;
+    let bench = bench_with(alloc, Some((Call::Write, 2)), None)?;
     let (status, _) = done(alloc, b"run", first_script(), bench)?;
     Some(status.code())
 }
@@ -216,54 +266,4 @@ fn without_write(alloc: Global) -> Option<u8> {
 #[test]
 fn a_device_that_fails(rt: HostRuntime) {
     assert_eq!(rt; without_write(rt.alloc()), Some(3));
-}
-
-fn path_a(alloc: Global) -> Option<Path> {
-    let bytes = b"/a";
-    if is_path(bytes) {
-        return Path::of(alloc, bytes).ok();
-    }
-    None
-}
-
-fn ann(alloc: Global) -> Option<Name> {
-    let bytes = b"ann";
-    if is_name(bytes) {
-        return Name::of(alloc, bytes).ok();
-    }
-    None
-}
-
-fn first_files(alloc: Global) -> Option<Files> {
-    let mut bench = bench_of(alloc, first_record(), None, None)?;
-    Files::begin(alloc, &mut bench, 100).ok()
-}
-
-/// Whether the file `/a` is there.
-fn is_found(alloc: Global) -> Option<bool> {
-    let files = first_files(alloc)?;
-    let path = path_a(alloc)?;
-    Some(files.look(&path).is_some())
-}
-
-fn deletion(alloc: Global) -> Option<FileCmd> {
-    let user = ann(alloc)?;
-    let path = path_a(alloc)?;
-    Some(FileCmd {
-        user,
-        what: FileWhat::Delete(path),
-    })
-}
-
-/// Whether a deletion of it is accepted.
-fn is_accepted(alloc: Global) -> Option<bool> {
-    let files = first_files(alloc)?;
-    let delete = deletion(alloc)?;
-    Some(matches!(files.test(&delete, None), Ok(None)))
-}
-
-#[test]
-fn files_are_looked_at_and_tested(rt: HostRuntime) {
-    assert_eq!(rt; is_found(rt.alloc()), Some(true));
-    assert_eq!(rt; is_accepted(rt.alloc()), Some(true));
 }

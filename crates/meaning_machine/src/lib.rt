@@ -1,2 +1,0 @@
-//! What a script's lines lead to, one after another: definitions alone.
-#![tactic(auto)]

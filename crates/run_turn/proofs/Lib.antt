@@ -1,2 +1,0 @@
-mod Led
-mod One
