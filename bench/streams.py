@@ -178,27 +178,25 @@ def locked_folder():
         check("two at once: what the first told is there", acknowledged(folder, told_first))
 
 
+def told_until_killed(folder, script, lines):
+    """The whole lines that a run told which was killed when it had told so many."""
+    process = subprocess.Popen([PROGRAM, "run"], cwd=folder, stdin=subprocess.PIPE, stdout=subprocess.PIPE)
+    process.stdin.write(script)
+    process.stdin.close()
+    told = b"".join(process.stdout.readline() for _ in range(lines))
+    process.send_signal(signal.SIGKILL)
+    told += process.stdout.read()
+    process.wait()
+    return told[: told.rfind(b"\n") + 1]
+
+
 def killed():
     for lines in (1, 7, 100):
         with tempfile.TemporaryDirectory() as folder:
-            process = subprocess.Popen([PROGRAM, "run"], cwd=folder, stdin=subprocess.PIPE, stdout=subprocess.PIPE)
-            process.stdin.write(creates(3000))
-            process.stdin.close()
-            told = b"".join(process.stdout.readline() for _ in range(lines))
-            process.send_signal(signal.SIGKILL)
-            told += process.stdout.read()
-            process.wait()
-            told = told[: told.rfind(b"\n") + 1]
+            told = told_until_killed(folder, creates(3000), lines)
             check(f"killed behind line {lines}: what was told is there", acknowledged(folder, told))
         with tempfile.TemporaryDirectory() as folder:
-            process = subprocess.Popen([PROGRAM, "run"], cwd=folder, stdin=subprocess.PIPE, stdout=subprocess.PIPE)
-            process.stdin.write(links(1500))
-            process.stdin.close()
-            told = b"".join(process.stdout.readline() for _ in range(lines))
-            process.send_signal(signal.SIGKILL)
-            told += process.stdout.read()
-            process.wait()
-            told = told[: told.rfind(b"\n") + 1]
+            told = told_until_killed(folder, links(1500), lines)
             check(f"killed behind line {lines} of links: rows and files go together", linked(folder, told))
 
 
