@@ -1,11 +1,7 @@
 -- Lines and answers: which lines are quiet, what is printed of values, answers and refusals, and what is told of a script.
-use Rattle.std.proofs.Common.{◌≡◌, ◌+◌, ◌-◌, ◌*◌, ◌^◌, map, ℕ, suc, Bool, true, false, List, [], ◌∷◌, ◌++◌, codes, Some, None, replicate, refl, ap, ◌∙◌, pos, negsuc}
-use Rattle.std.specs.Cmp.Lexicographic.{slice_cmp, nat_list_cmp_total}
-use Rattle.std.specs.FinMap as finmap
+use Rattle.std.proofs.Common.{◌≡◌, ◌+◌, ◌-◌, ◌*◌, ◌^◌, map, ℕ, Bool, true, false, List, [], ◌∷◌, ◌++◌, codes, None, replicate, refl, ◌∙◌, pos, negsuc}
 use Rattle.std.specs.Fmt.{digits}
-use Rattle.std.specs.Ordering.{nat_cmp}
 use Rattle.dl_base.specs.Name.{name_test}
-use Rattle.dl_base.specs.declared.answer.Answer.{Answer}
 use Rattle.dl_base.specs.declared.answer.Answer.TheVariants as answers
 use Rattle.dl_base.specs.declared.answer.ClaimRefusal.TheVariants as claims
 use Rattle.dl_base.specs.declared.answer.FileRefusal.TheVariants as refusals
@@ -14,10 +10,7 @@ use Rattle.dl_base.specs.declared.answer.Refusal.{Refusal}
 use Rattle.dl_base.specs.declared.answer.Refusal.TheVariants as reasons
 use Rattle.dl_base.specs.declared.answer.RestoreRefusal.TheVariants as restores
 use Rattle.dl_base.specs.declared.answer.Why.TheVariants as whys
-use Rattle.dl_base.specs.declared.file.File.{File}
-use Rattle.dl_base.specs.declared.file.FileCmd.{FileCmd}
 use Rattle.dl_base.specs.declared.file.FileRow.{FileRow}
-use Rattle.dl_base.specs.declared.file.FileWhat.{FileWhat}
 use Rattle.dl_base.specs.declared.file.FileWhat.TheVariants as whats
 use Rattle.dl_base.specs.declared.sql_fault.BadLink.TheVariants as links
 use Rattle.dl_base.specs.declared.sql_fault.SqlFault.TheVariants as faults
@@ -29,14 +22,9 @@ use Rattle.dl_base.specs.declared.value.LinkNo.{LinkNo}
 use Rattle.dl_base.specs.declared.value.Row.{Row}
 use Rattle.dl_base.specs.declared.value.Value.{Value}
 use Rattle.dl_base.specs.declared.value.Value.TheVariants as values
-use Rattle.meaning_files.specs.Commands.{file_command}
-use Rattle.meaning_files.specs.Files.{Files}
 use Rattle.meaning_script.specs.Lines.{is_quiet, is_user}
 use Rattle.meaning_script.specs.Printed.{cell_text, row_text, line_text, step_word, history_text}
 use Rattle.meaning_script.specs.Refusals.{session_name, refusal_words, limit_words}
-use Rattle.meaning_script.specs.Steps.{steps, text}
-use Rattle.meaning_script.specs.declared.turn.Turn.{Turn}
-use Rattle.meaning_script.specs.declared.turn.Turn.TheVariants as turns
 
 -- quiet lines
 
@@ -402,122 +390,3 @@ last_of_a_history = refl
 steps_by_name : map step_word (kinds.Begin 1 ∷ kinds.Statement 1 statements.Begin ∷ kinds.Prepare 1 ∷ kinds.Decide 1 ∷ kinds.Finish 1 ∷ kinds.Rollback 1 ∷ kinds.File (record { user = codes "ann"; what = whats.List }) ∷ kinds.Archive a_link ∷ kinds.Backup ∷ kinds.Restore (targets.Backup 1) ∷ kinds.Tick 1 ∷ kinds.CrashManager ∷ kinds.CrashDatabase ∷ kinds.Resolve ∷ [])
     ≡ codes "begin" ∷ codes "statement" ∷ codes "prepare" ∷ codes "decide" ∷ codes "finish" ∷ codes "rollback" ∷ codes "file" ∷ codes "archive" ∷ codes "backup" ∷ codes "restore" ∷ codes "tick" ∷ codes "crash" ∷ codes "crash" ∷ codes "resolve" ∷ []
 steps_by_name = refl
-
--- a quiet line, `@ann create /a one`, a refused line and `@ann read /a`: two steps
-
-abbrev by : List ℕ → FileWhat → FileCmd
-by user what = record { user = user; what = what }
-
-abbrev create : FileCmd
-create = by (codes "ann") (whats.Create (codes "/a") (codes "one"))
-
-abbrev read : FileCmd
-read = by (codes "ann") (whats.Read (codes "/a") None)
-
-abbrev rest : List Turn
-rest = turns.Answered (answers.Refused (reasons.BadLine 6)) ∷ turns.Asks read ∷ []
-
-abbrev lines : List Turn
-lines = turns.Quiet ∷ turns.Asks create ∷ rest
-
-two_steps : steps lines ≡ create ∷ read ∷ []
-two_steps = refl
-
-abbrev no_files : Files
-no_files = finmap.empty
-
-abbrev a_file : File
-a_file = record { owner = record { name = codes "ann"; writable = true }; bytes = codes "one"; before = None }
-
-abbrev one_file : Files
-one_file = finmap.insert no_files (codes "/a") a_file
-
-none : finmap.get no_files (codes "/a") ≡ None
-none = finmap.get-empty (slice_cmp nat_cmp) (codes "/a")
-
-count : finmap.len no_files ≡ 0
-count = finmap.len-empty (slice_cmp nat_cmp) File
-
-there : finmap.get one_file (codes "/a") ≡ Some a_file
-there = finmap.get-insert nat_list_cmp_total finmap.empty (codes "/a") a_file (codes "/a")
-
-created : file_command no_files create ≡ (answers.Done, one_file)
-created = rw (none, count) refl
-
--- a step, and what is told of the lines behind it
-step_told : (number k : ℕ) (files : Files) (cmd : FileCmd) (more : List Turn) {first : Answer × Files} {later : List ℕ}
-    → file_command files cmd ≡ first → text (suc number) k first.1 more ≡ later → text number (suc k) files (turns.Asks cmd ∷ more) ≡ line_text [] number first.0 ++ later
-step_told number k files cmd more {first} {later} is told =
-    ap (λ (d : Answer × Files). line_text [] number d.0 ++ text (suc number) k d.1 more) is ∙ ap (λ (t : List ℕ). line_text [] number first.0 ++ t) told
-
-nothing_before_the_first_step : text 1 0 no_files lines ≡ []
-nothing_before_the_first_step = refl
-
--- the refused line is told with the step before it
-told_after_one_step : text 1 1 no_files lines ≡ line (codes "2: ok") ++ line (codes "3: refused bad line 6")
-unfolding line_text digits
-told_after_one_step = rw (none, count) refl
-
-rest_told : text 3 1 one_file rest ≡ line (codes "3: refused bad line 6") ++ line (codes "4: bytes 3") ++ line (codes "4| one")
-unfolding line_text digits
-rest_told = rw there refl
-
-told_after_both_steps : text 1 2 no_files lines ≡ line (codes "2: ok") ++ line (codes "3: refused bad line 6") ++ line (codes "4: bytes 3") ++ line (codes "4| one")
-unfolding line_text digits
-told_after_both_steps = step_told 2 1 no_files create rest created rest_told
-
--- with no step to come all is told, however few are done
-refused_before_any_step : text 1 0 no_files (turns.Answered (answers.Refused (reasons.BadLine 1)) ∷ turns.Quiet ∷ []) ≡ line (codes "1: refused bad line 1")
-unfolding line_text digits
-refused_before_any_step = refl
-
--- create, read, create again, delete by another user, delete, read
-
-abbrev create_again : FileCmd
-create_again = by (codes "ann") (whats.Create (codes "/a") (codes "x"))
-
-abbrev delete : List ℕ → FileCmd
-delete user = by user (whats.Delete (codes "/a"))
-
-abbrev no_file_left : Files
-no_file_left = finmap.remove one_file (codes "/a")
-
-gone : finmap.get no_file_left (codes "/a") ≡ None
-gone = finmap.get-remove nat_list_cmp_total one_file (codes "/a") (codes "/a")
-
-was_read : file_command one_file read ≡ (answers.Bytes (codes "one"), one_file)
-was_read = rw there refl
-
-exists : file_command one_file create_again ≡ (answers.Refused (reasons.File (refusals.Exists (codes "/a"))), one_file)
-exists = rw there refl
-
-of_ann : file_command one_file (delete (codes "bob")) ≡ (answers.Refused (reasons.File (refusals.NotOwner (codes "/a") (codes "ann"))), one_file)
-of_ann = rw there refl
-
-deleted : file_command one_file (delete (codes "ann")) ≡ (answers.Done, no_file_left)
-deleted = rw there refl
-
-no_file : file_command no_file_left read ≡ (answers.Refused (reasons.File (refusals.NoFile (codes "/a"))), no_file_left)
-no_file = rw gone refl
-
-abbrev from_line_6 : List Turn
-from_line_6 = turns.Asks read ∷ []
-
-abbrev from_line_5 : List Turn
-from_line_5 = turns.Asks (delete (codes "ann")) ∷ from_line_6
-
-abbrev from_line_4 : List Turn
-from_line_4 = turns.Asks (delete (codes "bob")) ∷ from_line_5
-
-abbrev from_line_3 : List Turn
-from_line_3 = turns.Asks create_again ∷ from_line_4
-
-abbrev from_line_2 : List Turn
-from_line_2 = turns.Asks read ∷ from_line_3
-
-whole_script : text 1 6 no_files (turns.Asks create ∷ from_line_2)
-    ≡ line (codes "1: ok") ++ line (codes "2: bytes 3") ++ line (codes "2| one") ++ line (codes "3: refused exists /a") ++ line (codes "4: refused not owner /a ann") ++ line (codes "5: ok") ++ line (codes "6: refused no file /a")
-unfolding line_text digits
-whole_script =
-    step_told 1 5 no_files create from_line_2 created (step_told 2 4 one_file read from_line_3 was_read (step_told 3 3 one_file create_again from_line_4 exists
-    (step_told 4 2 one_file (delete (codes "bob")) from_line_5 of_ann (step_told 5 1 one_file (delete (codes "ann")) from_line_6 deleted (step_told 6 0 no_file_left read [] no_file refl)))))

@@ -4,8 +4,6 @@
 
 mod kind;
 mod next;
-mod turn;
 
 pub use kind::{Kept, Line, Order, Outline, Sentence};
 pub use next::{ActorState, Next};
-pub use turn::Turn;
