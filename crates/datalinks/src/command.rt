@@ -1,17 +1,19 @@
 // A command on one thread.
 ghost use Rattle.std.specs.Prelude.{◌≡◌, ◌≤◌, ◌^◌, ℕ, List, [], Some, None, length};
+ghost use Rattle.dl_areas.specs.Opening.{IsInOpening};
 ghost use Rattle.dl_base.specs.Outside.{AtEveryMoment, CrashState, FaultCounted};
 ghost use Rattle.dl_base.specs.Sources.{RoseFrom};
 ghost use Rattle.dl_base.specs.declared.area.Area.{Area};
 ghost use Rattle.dl_base.specs.declared.fault.Full.{Full};
 ghost use Rattle.dl_base.specs.declared.step.Settings as told;
-ghost use Rattle.meaning_areas.specs.Areas.{AreasStand};
+ghost use Rattle.meaning_areas.specs.Areas.{Areas, AreasStand};
 ghost use Rattle.meaning_areas.specs.Stands.{Stored};
 ghost use Rattle.datalinks.specs.Codes.{IsRunEnd, IsUsage, opening_end, step_end, script_end};
 ghost use Rattle.datalinks.specs.Complete.{IsDone, WasRead, WasOpened, StandsNow};
 ghost use Rattle.datalinks.specs.Run.{Begun, Begins, BeginsWith, HasRoom, IsFullAt, IsInside, IsNoStore, IsWholeRun};
 ghost use Rattle.datalinks.specs.Script.{IsTooLong, most_bytes};
 ghost use Rattle.run_args.specs.Words.{settings};
+ghost use Rattle.sys_opening.specs.Owned.{AreTold};
 ghost use Rattle.sys_recovery.specs.Left.{EveryImageStands, areas_of};
 
 use crate::run::run_lines;
@@ -60,6 +62,9 @@ pub fn single<S: Source, B: Bench>(
     ensures not_a_store { (area : Area) (place : ℕ) → result.0 ≡ Status.NotAStore area place → IsNoStore area place (B.outside bench) (B.outside result.1) }
     ensures full { (full : Full) → result.0 ≡ Status.Full full → (run : Begun) → Begins words.now (S.rest source.old) (B.outside bench) run → IsFullAt run full (B.outside bench) (B.outside result.1) }
 
+    // Where the areas stand for nothing, no record is written and nothing told, however it ends: also at a fault or for want of memory.
+    ensures unopened { (x : Areas) → AreTold x (B.outside bench) → ((s : Stored) → AreasStand x s → ⊥) → AtEveryMoment (IsInOpening (B.outside bench)) (B.outside bench) (B.outside result.1) × ((B.outside result.1).told ≡ (B.outside bench).told) }
+
     // A script that is too long, and areas that stand for nothing, lead to no end but their own, a fault or want of memory.
     ensures within { WasRead result.0 → (script : List ℕ) → S.rest source.old ≡ Some script → length script ≤ most_bytes }
     ensures stood { WasOpened result.0 → StandsNow (B.outside bench) }
@@ -93,6 +98,7 @@ fn command<S: Source, B: Bench>(
     ensures source { result.0 ≡ Status.Source → RoseFrom (S.faults source.old) (S.faults source.new) × (result.1 ≡ bench) }
     ensures too_long { (n : ℕ) → result.0 ≡ Status.TooLong n → IsTooLong n (S.rest source.old) (S.rest source.new) × (result.1 ≡ bench) }
     ensures not_a_store { (area : Area) (place : ℕ) → result.0 ≡ Status.NotAStore area place → IsNoStore area place (B.outside bench) (B.outside result.1) }
+    ensures unopened { (x : Areas) → AreTold x (B.outside bench) → ((s : Stored) → AreasStand x s → ⊥) → AtEveryMoment (IsInOpening (B.outside bench)) (B.outside bench) (B.outside result.1) × ((B.outside result.1).told ≡ (B.outside bench).told) }
     ensures full { (full : Full) → result.0 ≡ Status.Full full → (run : Begun) → BeginsWith given (S.rest source.old) (B.outside bench) run → IsFullAt run full (B.outside bench) (B.outside result.1) }
     ensures within { WasRead result.0 → (script : List ℕ) → S.rest source.old ≡ Some script → length script ≤ most_bytes }
     ensures stood { WasOpened result.0 → StandsNow (B.outside bench) }
@@ -128,6 +134,7 @@ fn run<B: Bench>(alloc: Global, mut bench: B, given: Settings, script: &[u8]) ->
     ensures history { (run : Begun) → BeginsWith given (Some script.now) (B.outside bench) run → AtEveryMoment (IsInside run (B.outside bench)) (B.outside bench) (B.outside result.1) }
     ensures device { result.0 ≡ Status.Device → FaultCounted (B.outside bench) (B.outside result.1) }
     ensures not_a_store { (area : Area) (place : ℕ) → result.0 ≡ Status.NotAStore area place → IsNoStore area place (B.outside bench) (B.outside result.1) }
+    ensures unopened { (x : Areas) → AreTold x (B.outside bench) → ((s : Stored) → AreasStand x s → ⊥) → AtEveryMoment (IsInOpening (B.outside bench)) (B.outside bench) (B.outside result.1) × ((B.outside result.1).told ≡ (B.outside bench).told) }
     ensures full { (full : Full) → result.0 ≡ Status.Full full → (run : Begun) → BeginsWith given (Some script.now) (B.outside bench) run → IsFullAt run full (B.outside bench) (B.outside result.1) }
     ensures stood { WasOpened result.0 → StandsNow (B.outside bench) }
 {

@@ -1,12 +1,12 @@
 -- Worked rows: runs of scripts of one line or two.
-use Rattle.std.proofs.Common.{◌≡◌, ℕ, List, [], ◌∷◌, ◌++◌, codes, Some, None, refl}
+use Rattle.std.proofs.Common.{◌≡◌, ℕ, ◌+◌, ◌-◌, ◌^◌, min, List, [], ◌∷◌, ◌++◌, codes, Some, None, refl}
 use Rattle.dl_base.specs.declared.answer.Answer.TheVariants as answers
 use Rattle.dl_base.specs.declared.answer.Refusal.TheVariants as refusals
 use Rattle.dl_base.specs.declared.file.FileCmd.{FileCmd}
 use Rattle.dl_base.specs.declared.step.Step.TheVariants as steps
 use Rattle.fs_command.specs.declared.line.FileLine.TheVariants as files
 use Rattle.meaning_run.specs.Running.{IsAtEnd, Read, after, first_run, next_step, turn, comes_to, written}
-use Rattle.meaning_script.specs.Expansion.{expansion, file}
+use Rattle.meaning_script.specs.Expansion.{expansion, file, system}
 use Rattle.meaning_script.specs.Printed.{line_text}
 use Rattle.meaning_script.specs.declared.kind.Line.TheVariants as lines
 use Rattle.meaning_script.specs.declared.kind.Order.TheVariants as orders
@@ -22,6 +22,9 @@ blank = record { actor = None; line = lines.Nothing }
 
 abbrev pub archive : Read
 archive = record { actor = None; line = lines.System orders.Archive }
+
+abbrev pub tick : Read
+tick = record { actor = None; line = lines.System (orders.Tick 60) }
 
 abbrev pub command : FileCmd → Read
 command cmd = record { actor = Some (codes "@ann"); line = lines.File (files.Command cmd) }
@@ -39,6 +42,36 @@ row-archive s = refl
 pub row-not-built : (s : State) → (after 1 (first_run (archive ∷ []) s)).told ≡ line_text [] 1 (answers.Refused refusals.NotBuilt)
 unfolding turn comes_to
 row-not-built s = refl
+
+-- a tick takes its step, which has no record, and then it is told
+pub row-tick : (s : State) → next_step (first_run (tick ∷ []) s) ≡ Some (steps.Tick 60)
+unfolding comes_to expansion system
+row-tick s = refl
+
+pub row-ticked : (s : State) → (after 2 (first_run (tick ∷ []) s)).told ≡ line_text [] 1 answers.Done
+unfolding turn comes_to expansion system step
+row-ticked s = refl
+
+pub row-moment : (s : State) → (after 2 (first_run (tick ∷ []) s)).state.moment ≡ min (s.moment + 60) (2 ^ 64 - 1)
+unfolding turn comes_to expansion system step
+row-moment s = refl
+
+pub row-unwritten : (s : State) → written 2 (first_run (tick ∷ []) s) ≡ []
+unfolding turn comes_to expansion system writes
+row-unwritten s = refl
+
+-- at the greatest moment it stays there, and a tick that would pass it comes to it
+pub row-greatest : (s : State) → (after 2 (first_run (tick ∷ []) (record s { moment = 2 ^ 64 - 1 }))).state.moment ≡ 2 ^ 64 - 1
+unfolding turn comes_to expansion system step
+row-greatest s = refl
+
+pub row-passing : (s : State) → (after 2 (first_run (tick ∷ []) (record s { moment = 2 ^ 64 - 60 }))).state.moment ≡ 2 ^ 64 - 1
+unfolding turn comes_to expansion system step
+row-passing s = refl
+
+pub row-below : (s : State) → (after 2 (first_run (tick ∷ []) (record s { moment = 2 ^ 64 - 62 }))).state.moment ≡ 2 ^ 64 - 2
+unfolding turn comes_to expansion system step
+row-below s = refl
 
 -- a command takes its step, and then its answer is told, before the next line is
 pub row-command : (s : State) (cmd : FileCmd) → next_step (first_run (command cmd ∷ bad ∷ []) s) ≡ Some (steps.File cmd)

@@ -17,9 +17,10 @@ use Rattle.meaning_run.proofs.Lowering.{Lowers, commit-lowers, prepare-refused, 
 use Rattle.meaning_run.specs.Built.{is_built}
 use Rattle.meaning_run.specs.Running.{Read, Run, actor_state, after, by_kind, by_right, comes_to, met, next_step, number_of, pending_links, phase_in, step_in, step_on, stepped, turn, turn_on, turned}
 use Rattle.meaning_script.specs.Actors.{is_extra, with_actor}
-use Rattle.meaning_script.specs.Expansion.{Then, does, given, answered, silent, alone, commit, commit_behind, commit_by, expansion, file, first_step, goes_on, is_begun, is_commit, is_refused, last_of, one, session, statement, step_from, told_commit}
+use Rattle.meaning_script.specs.Expansion.{Then, does, given, answered, silent, alone, commit, commit_behind, commit_by, expansion, file, first_step, goes_on, is_begun, is_commit, is_refused, last_of, one, session, statement, step_from, system, told_commit}
 use Rattle.meaning_script.specs.declared.kind.Line.{Line}
 use Rattle.meaning_script.specs.declared.kind.Line.TheVariants as lines
+use Rattle.meaning_script.specs.declared.kind.Order.TheVariants as orders
 use Rattle.meaning_script.specs.declared.kind.Sentence.{Sentence}
 use Rattle.meaning_script.specs.declared.kind.Sentence.TheVariants as sentences
 use Rattle.meaning_script.specs.declared.next.ActorState.{ActorState}
@@ -170,10 +171,17 @@ abbrev pub IsInLine : Run → Line → Type 0
 IsInLine r l = IsCommitLine r (committing l)
 
 kind-few : (r : Run) (l : Line) (x : Step) → IsInLine r l → is_built l ≡ true → step_in (expansion l (actor_state r l) r.answers (pending_links r.state)) ≡ Some x → length r.answers < 5
-unfolding expansion session commit
+unfolding expansion session system commit
 kind-few r lines.Nothing x now built next = none_some x next
 kind-few r (lines.Bad why) x now built next = none_some x next
-kind-few r (lines.System order) x now built next = absurd cc
+kind-few r (lines.System (orders.Tick seconds)) x now built next = one-few (steps.Tick seconds) x r.answers next
+kind-few r (lines.System orders.Archive) x now built next = absurd cc
+kind-few r (lines.System orders.Backup) x now built next = absurd cc
+kind-few r (lines.System (orders.Restore target)) x now built next = absurd cc
+kind-few r (lines.System orders.CrashManager) x now built next = absurd cc
+kind-few r (lines.System orders.CrashDatabase) x now built next = absurd cc
+kind-few r (lines.System orders.CrashBoth) x now built next = absurd cc
+kind-few r (lines.System orders.Resolve) x now built next = absurd cc
 kind-few r (lines.File l) x now built next = file-few (actor_state r (lines.File l)).last l x r.answers next
 kind-few r (lines.Session name (sentences.Sql statements.Begin)) x now built next = one-few (steps.Begin (number_of r name)) x r.answers next
 kind-few r (lines.Session name (sentences.Sql statements.Commit)) x now built next = commit-few r.state (number_of r name) x r.answers now next

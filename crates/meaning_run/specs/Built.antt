@@ -7,6 +7,7 @@ use Rattle.dl_base.specs.declared.statement.Stmt.{Stmt}
 use Rattle.dl_base.specs.declared.statement.Stmt.TheVariants as statements
 use Rattle.meaning_script.specs.declared.kind.Line.{Line}
 use Rattle.meaning_script.specs.declared.kind.Line.TheVariants as lines
+use Rattle.meaning_script.specs.declared.kind.Order.TheVariants as orders
 use Rattle.meaning_script.specs.declared.kind.Sentence.{Sentence}
 use Rattle.meaning_script.specs.declared.kind.Sentence.TheVariants as sentences
 
@@ -23,8 +24,9 @@ abbrev pub is_built_sentence : Sentence → Bool
 is_built_sentence (sentences.Sql stmt) = is_built_statement stmt
 is_built_sentence _ = true
 
--- all but those of the whole system, and tables with RECOVERY YES
+-- all but those of the whole system other than `! tick N`, and tables with RECOVERY YES
 abbrev pub is_built : Line → Bool
+is_built (lines.System (orders.Tick seconds)) = true
 is_built (lines.System order) = false
 is_built (lines.Session name s) = is_built_sentence s
 is_built _ = true

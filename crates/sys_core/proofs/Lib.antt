@@ -23,5 +23,6 @@ pub mod Spelled
 pub mod Starting
 pub mod Stating
 pub mod Stepped
+pub mod Ticking
 pub mod Voted
 pub mod Voting

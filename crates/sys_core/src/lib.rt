@@ -1,9 +1,10 @@
-//! The steps of the machine over the owners of the five areas: BEGIN, statements, the vote, the decision and its Finish, ROLLBACK, and
-//! commands on files.
+//! The steps of the machine over the owners of the five areas: BEGIN, statements, the vote, the decision and its Finish, ROLLBACK,
+//! commands on files, and the clock.
 #![tactic(auto)]
 
 mod begin;
 mod claim;
+mod clock;
 mod command;
 mod decide;
 mod ending;

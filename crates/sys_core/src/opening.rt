@@ -7,9 +7,9 @@ ghost use Rattle.dl_base.specs.Outside.{AtEveryMoment, FaultCounted};
 ghost use Rattle.dl_base.specs.declared.area.Area.{Area as Areas_};
 ghost use Rattle.dl_base.specs.declared.fault.Full.{Full as Fulls};
 ghost use Rattle.fm_manager.specs.Managed.{as_writes};
-ghost use Rattle.meaning_areas.specs.Areas.{Areas, StandForNothing};
+ghost use Rattle.meaning_areas.specs.Areas.{Areas, AreasStand, StandForNothing};
 ghost use Rattle.meaning_areas.specs.Lists.{Folds};
-ghost use Rattle.meaning_areas.specs.Stands.{stored_of};
+ghost use Rattle.meaning_areas.specs.Stands.{Stored, stored_of};
 ghost use Rattle.meaning_history.specs.Reached.{first_of};
 ghost use Rattle.meaning_system.specs.Machine.{start};
 ghost use Rattle.meaning_system.specs.Writes.{opening};
@@ -27,7 +27,7 @@ use sys_seats::{Seats, seats_count_together};
 impl Engine {
     /// Opens the five areas as `sys_opening::begin` does, and begins a run with what they stand for: no session has a transaction, and the
     /// moment is that of the settings, as is the most bytes that the records and the closing gate of one area may be. The faults, and what
-    /// they leave, are those of `sys_opening::begin`.
+    /// they leave, are those of `sys_opening::begin`. Over areas that stand for nothing no record is written, however it ends.
     pub fn open<B: Bench>(
         alloc: Global,
         bench: &mut B,
@@ -44,6 +44,7 @@ impl Engine {
         ensures told { (B.outside bench.new).told ≡ (B.outside bench.old).told }
         ensures no_store { (area : Areas_) (place : ℕ) → result ≡ Err (OpenFault.NotAStore area place) → (x : Areas) → AreTold x (B.outside bench.old) → StandForNothing x (area, place) }
         ensures unwritten { (area : Areas_) (place : ℕ) → result ≡ Err (OpenFault.NotAStore area place) → AtEveryMoment (IsInOpening (B.outside bench.old)) (B.outside bench.old) (B.outside bench.new) }
+        ensures unopened { (x : Areas) → AreTold x (B.outside bench.old) → ((s : Stored) → AreasStand x s → ⊥) → AtEveryMoment (IsInOpening (B.outside bench.old)) (B.outside bench.old) (B.outside bench.new) }
         ensures full { (full : Fulls) → result ≡ Err (OpenFault.Full full) → (lists : Lists) (f : Folds) → AreFound lists f (B.outside bench.old) → full_in (journals_with settings.limit lists) (as_writes (opening f)) ≡ Some full }
         ensures stands { (full : Fulls) → result ≡ Err (OpenFault.Full full) → (lists : Lists) → AreRead lists (B.outside bench.old) → (f : Folds) × AreFound lists f (B.outside bench.old) }
         ensures found { (full : Fulls) → result ≡ Err (OpenFault.Full full) → (x : Areas) → AreTold x (B.outside bench.old) → (lists : Lists) × (f : Folds) × AreFound lists f (B.outside bench.old) }

@@ -12,7 +12,7 @@ use Rattle.dl_journal.specs.Open.{IsList}
 use Rattle.dl_journal.specs.Records.{records, size}
 use Rattle.fm_archive.specs.Stock as copies_area
 use Rattle.fm_branch.specs.Linked as links_area
-use Rattle.meaning_areas.specs.Areas.{Areas, IsUnlike, StandForNothing, area_length, backups_of, branches_of, bytes_of, copies_of, folds_of, listed, read_by, rows_of, then}
+use Rattle.meaning_areas.specs.Areas.{Areas, AreasStand, IsUnlike, StandForNothing, area_length, backups_of, branches_of, bytes_of, copies_of, folds_of, listed, read_by, rows_of, then}
 use Rattle.meaning_areas.specs.Branches.{Branches}
 use Rattle.meaning_areas.specs.Commits.{Commits}
 use Rattle.meaning_areas.specs.Copies.{Backup}
@@ -137,6 +137,10 @@ module _ (limit : ℕ) (js : Journals) (lists : Lists) (o n : Outside) (all : Ar
   pub unlike-told : (f : Folds) → AreFolded lists f → (a : Area) (place : ℕ) → IsUnlike f a → place ≡ (js a).length → StandForNothing x (a, place)
   unlike-told f folded a place unlike is = inr (f, folds-told f folded, unlike, is ∙ length-told a)
 
-  -- they are found, where they fit each other
+  -- where they fit each other, they stand for what that is
+  pub stand-told : (f : Folds) → AreFolded lists f → IsStand f (stored_of f) → AreasStand x (stored_of f)
+  stand-told f folded stand = record { folds = f; are = folds-told f folded; stand = stand }
+
+  -- and they are found
   pub found-told : (f : Folds) → AreFolded lists f → IsStand f (stored_of f) → AreFound lists f o
   found-told f folded stand = record { read = λ a. (bytes_of x a, told a, list-at a); folded = folded; stand = stand }

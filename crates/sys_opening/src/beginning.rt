@@ -8,9 +8,9 @@ ghost use Rattle.dl_base.specs.Outside.{AtEveryMoment, FaultCounted};
 ghost use Rattle.dl_base.specs.declared.area.Area.{Area as Areas_};
 ghost use Rattle.dl_base.specs.declared.fault.Full.{Full as Fulls};
 ghost use Rattle.fm_manager.specs.Managed.{as_writes};
-ghost use Rattle.meaning_areas.specs.Areas.{Areas, StandForNothing};
+ghost use Rattle.meaning_areas.specs.Areas.{Areas, AreasStand, StandForNothing};
 ghost use Rattle.meaning_areas.specs.Lists.{Folds, folds_on};
-ghost use Rattle.meaning_areas.specs.Stands.{IsStand, stored_of};
+ghost use Rattle.meaning_areas.specs.Stands.{IsStand, Stored, stored_of};
 ghost use Rattle.meaning_history.specs.Reached.{HasPast};
 ghost use Rattle.meaning_system.specs.Writes.{opening};
 ghost use Rattle.sys_opening.specs.Begun.{AreFound, HasBegun, IsOfOpening};
@@ -38,7 +38,8 @@ use std::alloc::Global;
 /// limit is the most bytes that the records and the closing gate of one area may be. It costs the records of all areas, what
 /// `compare` costs, and what becomes of the branches in doubt.
 /// `NotAStore` has the first area that is no list or whose fold refuses a record, and the place, from 0, of that one's gate; or the
-/// first whose list does not fit the others, and the bytes of its records and closing gate. Then nothing of the opening is written.
+/// first whose list does not fit the others, and the bytes of its records and closing gate. Over such areas nothing of the opening is
+/// written, also where it ends at `Device` or for want of memory.
 /// `Full` has the first record of the opening that has no number or no room. An opening may be stopped at any moment, and end at
 /// `Device` or for want of memory between two of its records: the next one goes on from there.
 pub fn begin<B: Bench>(alloc: Global, bench: &mut B, limit: u64) -> Result<Owners, OpenFault>
@@ -58,6 +59,9 @@ pub fn begin<B: Bench>(alloc: Global, bench: &mut B, limit: u64) -> Result<Owner
     // The areas stand for nothing, and nothing is written.
     ensures no_store { (area : Areas_) (place : ℕ) → result ≡ Err (OpenFault.NotAStore area place) → (x : Areas) → AreTold x (B.outside bench.old) → StandForNothing x (area, place) }
     ensures unwritten { (area : Areas_) (place : ℕ) → result ≡ Err (OpenFault.NotAStore area place) → AtEveryMoment (IsInOpening (B.outside bench.old)) (B.outside bench.old) (B.outside bench.new) }
+
+    // Where the areas stand for nothing, no record of the opening is written, however it ends.
+    ensures unopened { (x : Areas) → AreTold x (B.outside bench.old) → ((s : Stored) → AreasStand x s → ⊥) → AtEveryMoment (IsInOpening (B.outside bench.old)) (B.outside bench.old) (B.outside bench.new) }
 
     // It is full at the first record of the opening that does not fit.
     ensures full { (full : Fulls) → result ≡ Err (OpenFault.Full full) → (lists : Lists) (f : Folds) → AreFound lists f (B.outside bench.old) → full_in (journals_with limit lists) (as_writes (opening f)) ≡ Some full }

@@ -14,9 +14,11 @@ use Rattle.fs_command.specs.declared.line.FileLine.{FileLine}
 use Rattle.fs_command.specs.declared.line.FileLine.TheVariants as files
 use Rattle.meaning_run.specs.Built.{is_built}
 use Rattle.meaning_run.specs.Running.{Run, actor_state, number_of}
-use Rattle.meaning_script.specs.Expansion.{Then, does, given, answered, silent, alone, asked, behind_decide, behind_finish, behind_prepare, behind_statement, commit, commit_behind, commit_by, expansion, file, first_step, goes_on, is_alone, is_begun, is_commit, is_refused, last_of, one, read_of, session, statement, step_from, told_commit}
+use Rattle.meaning_script.specs.Expansion.{Then, does, given, answered, silent, alone, asked, behind_decide, behind_finish, behind_prepare, behind_statement, commit, commit_behind, commit_by, expansion, file, first_step, goes_on, is_alone, is_begun, is_commit, is_refused, last_of, one, read_of, session, statement, step_from, system, told_commit}
 use Rattle.meaning_script.specs.declared.kind.Line.{Line}
 use Rattle.meaning_script.specs.declared.kind.Line.TheVariants as lines
+use Rattle.meaning_script.specs.declared.kind.Order.{Order}
+use Rattle.meaning_script.specs.declared.kind.Order.TheVariants as orders
 use Rattle.meaning_script.specs.declared.kind.Sentence.{Sentence}
 use Rattle.meaning_script.specs.declared.kind.Sentence.TheVariants as sentences
 use Rattle.meaning_script.specs.declared.next.ActorState.{ActorState}
@@ -122,21 +124,44 @@ fine-file count last (files.Command cmd) done = fine-one count (steps.File cmd) 
 fine-file count last (files.ReadOf user name) [] = fine-read count user name last
 fine-file count last (files.ReadOf user name) (a ∷ more) = tt
 
--- a line that is built takes steps of its own session, or a command
+fine-system : (count : ℕ) (order : Order) (done : List Answer) (pending : List LinkNo) → is_built (lines.System order) ≡ true → Fine count (system order done pending)
+unfolding system
+fine-system count (orders.Tick seconds) done pending built = fine-one count (steps.Tick seconds) done tt
+fine-system count orders.Archive done pending built = absurd cc
+fine-system count orders.Backup done pending built = absurd cc
+fine-system count (orders.Restore target) done pending built = absurd cc
+fine-system count orders.CrashManager done pending built = absurd cc
+fine-system count orders.CrashDatabase done pending built = absurd cc
+fine-system count orders.CrashBoth done pending built = absurd cc
+fine-system count orders.Resolve done pending built = absurd cc
+
+-- a line that is built takes steps of its own session, a command, or one of the clock
 pub fine-line : (r : Run) (line : Line) (done : List Answer) (pending : List LinkNo) → is_built line ≡ true → IsNamed r line → Fine (length (sessions r.actors)) (expansion line (actor_state r line) done pending)
 unfolding expansion
 fine-line r lines.Nothing done pending built named = tt
 fine-line r (lines.Bad why) done pending built named = tt
-fine-line r (lines.System order) done pending built named = absurd cc
+fine-line r (lines.System order) done pending built named = fine-system (length (sessions r.actors)) order done pending built
 fine-line r (lines.File l) done pending built named = fine-file (length (sessions r.actors)) (actor_state r (lines.File l)).last l done
 fine-line r (lines.Session name s) done pending built named = fine-session (length (sessions r.actors)) (actor_state r (lines.Session name s)) named s done
 
 -- such a line does not look at what is pending
+
+no-pending-system : (order : Order) (done : List Answer) (p q : List LinkNo) → is_built (lines.System order) ≡ true → system order done p ≡ system order done q
+unfolding system
+no-pending-system (orders.Tick seconds) done p q built = refl
+no-pending-system orders.Archive done p q built = absurd cc
+no-pending-system orders.Backup done p q built = absurd cc
+no-pending-system (orders.Restore target) done p q built = absurd cc
+no-pending-system orders.CrashManager done p q built = absurd cc
+no-pending-system orders.CrashDatabase done p q built = absurd cc
+no-pending-system orders.CrashBoth done p q built = absurd cc
+no-pending-system orders.Resolve done p q built = absurd cc
+
 pub no-pending : (line : Line) (actor : ActorState) (done : List Answer) (p q : List LinkNo) → is_built line ≡ true → expansion line actor done p ≡ expansion line actor done q
 unfolding expansion
 no-pending lines.Nothing actor done p q built = refl
 no-pending (lines.Bad why) actor done p q built = refl
-no-pending (lines.System order) actor done p q built = absurd cc
+no-pending (lines.System order) actor done p q built = no-pending-system order done p q built
 no-pending (lines.File l) actor done p q built = refl
 no-pending (lines.Session name s) actor done p q built = refl
 
@@ -152,7 +177,7 @@ step-short count (steps.File cmd) is = tt
 step-short count (steps.Archive n) is = absurd is
 step-short count steps.Backup is = absurd is
 step-short count (steps.Restore t) is = absurd is
-step-short count (steps.Tick n) is = absurd is
+step-short count (steps.Tick n) is = tt
 step-short count steps.CrashManager is = absurd is
 step-short count steps.CrashDatabase is = absurd is
 step-short count steps.Resolve is = absurd is

@@ -38,7 +38,7 @@ in-memory first x s w v result o m = record { answers = m.answers; memory = m.me
     by (Err faults.Device) fits full never = absurd (never refl)
     by (Err (faults.Full f)) fits full never = there (Some (appends.Full f)) (records_of s x) (subst (λ (ws : List Write). Does js js ws (Some (appends.Full f)) o o) (sym (full f refl)) (does-exhausted js _ f o refl))
 
--- BEGIN and statements write nothing
+-- BEGIN, statements and the clock write nothing
 pub begin-spelled : (s : State) (n : ℕ) → AreSpelled (writes s (steps.Begin n))
 unfolding writes
 begin-spelled s n = tt
@@ -46,3 +46,7 @@ begin-spelled s n = tt
 pub statement-spelled : (s : State) (n : ℕ) (stmt : Stmt) → AreSpelled (writes s (steps.Statement n stmt))
 unfolding writes
 statement-spelled s n stmt = tt
+
+pub tick-spelled : (s : State) (n : ℕ) → AreSpelled (writes s (steps.Tick n))
+unfolding writes
+tick-spelled s n = tt

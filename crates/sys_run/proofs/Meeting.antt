@@ -1,6 +1,7 @@
 -- Who acts, and the sessions among them.
-use Rattle.std.proofs.Common.{◌≡◌, ◌≢◌, ℕ, zero, suc, ◌+◌, ◌≤◌, ◌||◌, ◌&&◌, ◌==◌, Bool, true, false, not, cond, List, [], ◌∷◌, ◌++◌, length, take, nat_lt, nat_le, bytes_eq, Option, Some, None, is_some, refl, sym, ap, ◌∙◌, subst, arith, slice_get, length-append}
+use Rattle.std.proofs.Common.{◌≡◌, ◌≢◌, ℕ, zero, suc, ◌+◌, ◌≤◌, ◌<◌, ◌||◌, ◌&&◌, ◌==◌, Bool, true, false, not, cond, List, [], ◌∷◌, ◌++◌, length, take, nat_lt, nat_le, bytes_eq, Option, Some, None, is_some, refl, sym, ap, ◌∙◌, subst, arith, slice_get, length-append}
 use Rattle.std.proofs.lemmas.Bool.{and_parts}
+use Rattle.std.proofs.lemmas.Bool.Decides.{nat_tests}
 use Rattle.std.proofs.lemmas.Slice.Eq.{bytes_eq-Decides}
 use Rattle.std.specs.List.{list_any, position}
 use Rattle.std.specs.Option.{unwrap_or}
@@ -96,6 +97,32 @@ one-session actors a seated extra = by (is_user_mark a) refl (is_known actors a)
     by false m true full f seated extra = absurd (true_false (sym (f m) ∙ seated))
     by false m false true f seated extra = absurd (true_false extra)
     by false m false false f seated extra = sessions-more actors a ∙ ap (λ b. sessions actors ++ cond b [] (a ∷ [])) m
+
+-- there are no more sessions than actors
+sessions-few : (actors : List (List ℕ)) → length (sessions actors) ≤ length actors
+sessions-few [] = omega (arith)
+sessions-few (a ∷ more) = by (is_user_mark a) (sessions-few more)
+  where
+    by : (t : Bool) → length (sessions more) ≤ length more → length (cond t (sessions more) (a ∷ sessions more)) ≤ suc (length more)
+    by true is = omega (arith, is)
+    by false is = omega (arith, is)
+
+-- a new session that is counted is at most the last that a script may have
+pub room-for-one : (actors : List (List ℕ)) (a : List ℕ) → is_seated actors (Some a) ≡ false → is_extra actors (Some a) ≡ false → length (sessions actors) < most_actors
+room-for-one actors a seated extra = by (is_user_mark a) refl (is_known actors a) (nat_le most_actors (length actors)) refl (λ none. numbered actors a none) seated extra
+  where
+    under : nat_le most_actors (length actors) ≡ false → length actors < most_actors
+    under is = grind (arith, nat_tests)
+
+    by : (mark : Bool) → is_user_mark a ≡ mark → (known full : Bool) → nat_le most_actors (length actors) ≡ full → (is_user_mark a ≡ false → is_some (session_number actors a) ≡ known)
+        → (mark || is_some (session_number actors a)) ≡ false → (not known && full) ≡ false → length (sessions actors) < most_actors
+    by true m known full e f seated extra = absurd (true_false seated)
+    by false m true full e f seated extra = absurd (true_false (sym (f m) ∙ seated))
+    by false m false true e f seated extra = absurd (true_false extra)
+    by false m false false e f seated extra =
+        let few : length (sessions actors) ≤ length actors = sessions-few actors in
+        let room : length actors < most_actors = under e in
+        omega (arith, few, room)
 
 -- ---- what is kept of them
 

@@ -28,7 +28,7 @@ abbrev pub is_seated : List (List ℕ) → Option (List ℕ) → Bool
 is_seated actors None = true
 is_seated actors (Some a) = is_user_mark a || is_some (session_number actors a)
 
--- a step that is taken for a line: of one of so many sessions, or a command on files
+-- a step that is taken for a line: of one of so many sessions, a command on files, or of the clock
 abbrev pub IsStepOf : ℕ → Step → Type 0
 IsStepOf count (steps.Begin n) = IsSession count n
 IsStepOf count (steps.Statement n stmt) = IsSession count n × (is_plain stmt ≡ true)
@@ -40,7 +40,7 @@ IsStepOf count (steps.File cmd) = Unit {0}
 IsStepOf count (steps.Archive n) = ⊥
 IsStepOf count steps.Backup = ⊥
 IsStepOf count (steps.Restore t) = ⊥
-IsStepOf count (steps.Tick n) = ⊥
+IsStepOf count (steps.Tick n) = Unit {0}
 IsStepOf count steps.CrashManager = ⊥
 IsStepOf count steps.CrashDatabase = ⊥
 IsStepOf count steps.Resolve = ⊥

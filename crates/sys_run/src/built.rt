@@ -4,13 +4,14 @@ ghost use Rattle.std.specs.List.{list_any};
 ghost use Rattle.meaning_run.specs.Built as meant;
 
 use dl_base::{ColumnDef, KindDef, Stmt};
-use run_script::{Line, Sentence};
+use run_script::{Line, Order, Sentence};
 
-// Whether a line is built: all but those of the whole system, and tables with RECOVERY YES.
+// Whether a line is built: all but those of the whole system other than `! tick N`, and tables with RECOVERY YES.
 pub(crate) fn is_built(line: &Line) -> bool
     ensures { result ≡ meant.is_built line.now }
 {
     match line {
+        Line::System(Order::Tick(_)) => true,
         Line::System(_) => false,
         Line::Session(_, sentence) => is_built_sentence(sentence),
         Line::Nothing | Line::File(_) | Line::Bad(_) => true,

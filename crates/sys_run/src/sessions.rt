@@ -1,8 +1,9 @@
 // The sessions of a script.
-ghost use Rattle.std.specs.Prelude.{◌≡◌, ◌+◌, ◌∷◌, ◌++◌, [], not, length, slice_get, Some, IfOk, OnOk};
+ghost use Rattle.std.specs.Prelude.{◌≡◌, ◌+◌, ◌<◌, ◌∷◌, ◌++◌, [], not, length, slice_get, Some, IfOk, OnOk};
 ghost use Rattle.std.specs.FinMap as maps;
 ghost use Rattle.std.specs.Option.{option_map, unwrap_or};
 ghost use Rattle.db_txn.specs.Transaction.{vacant};
+ghost use Rattle.dl_base.specs.Limits.{most_actors};
 ghost use Rattle.dl_base.specs.Name.{IsName};
 ghost use Rattle.meaning_run.specs.Running as running;
 ghost use Rattle.meaning_script.specs.Actors.{actor_of, is_extra, is_user_mark, session_number, sessions, with_actor};
@@ -11,7 +12,6 @@ ghost use Rattle.sys_run.specs.Sessions.{is_seated};
 
 use crate::grids::Grids;
 use db_txn::Txn;
-use dl_base::limits::MOST_ACTORS;
 use dl_base::{Answer, Grid, List, Memory, Name, Text, Value};
 use run_script::{Actors, Line, actor_of, session_number};
 use std::alloc::Global;
@@ -64,15 +64,12 @@ impl Sessions {
     // A new session, of this name.
     fn seat(&mut self, alloc: Global, name: &[u8]) -> Result<(), Memory>
         requires name { IsName name.now }
+        requires few { length self.old.names < most_actors }
         ensures names { OnOk result (self.new.names ≡ self.old.names ++ name.now ∷ []) }
         ensures txns { OnOk result (self.new.txns ≡ self.old.txns ++ vacant (length self.old.names + 1) ∷ []) }
         ensures actors { self.new.actors ≡ self.old.actors }
         ensures grids { self.new.grids ≡ self.old.grids }
     {
-        // at most 64 actors are counted, so there is room for the number
-        if self.names.len() >= MOST_ACTORS {
-            return Err(Memory);
-        }
         let name = Name::of(alloc, name)?;
         let number = self.names.len() as u32 + 1;
         match self.txns.push(Txn::vacant(alloc, number)) {

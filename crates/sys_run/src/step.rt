@@ -40,10 +40,10 @@ pub(crate) fn do_step<B: Bench>(
         Step::Finish(session) => finish(engine, txns, bench, session),
         Step::Rollback(session) => roll_back(engine, txns, bench, session),
         Step::File(cmd) => engine.command(bench, cmd),
+        Step::Tick(seconds) => Ok(engine.tick(seconds)),
         Step::Archive(_)
         | Step::Backup
         | Step::Restore(_)
-        | Step::Tick(_)
         | Step::CrashManager
         | Step::CrashDatabase
         | Step::Resolve => unreachable!(),

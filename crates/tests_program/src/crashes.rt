@@ -6,22 +6,32 @@ use dl_base::{Area, List};
 use dl_bench::{Call, MemoryBench, Pick};
 use std::alloc::Global;
 
-/// A file, a row that links it, and a row that lets it go.
+/// A file, a row that links it, a transaction that lets it go with its vote, its decision and its Finish as lines of their own, and one that
+/// is rolled back behind its vote.
 fn script() -> &'static [u8] {
     b"@ann create /a one\n\
       A: CREATE TABLE m (id INTEGER PRIMARY KEY, f DATALINK LINKTYPE URL FILE LINK CONTROL INTEGRITY ALL READ PERMISSION DB WRITE PERMISSION BLOCKED RECOVERY NO ON UNLINK DELETE)\n\
       A: INSERT INTO m VALUES (1, DLVALUE('http://fs1/a'))\n\
       @ann delete /a\n\
+      A: BEGIN\n\
       A: DELETE FROM m\n\
-      @ann create /a two\n"
+      A: !prepare\n\
+      A: !decide\n\
+      A: !finish\n\
+      @ann create /a two\n\
+      A: BEGIN\n\
+      A: INSERT INTO m VALUES (2, DLVALUE('http://fs1/a'))\n\
+      A: !prepare\n\
+      A: ROLLBACK\n"
 }
 
 fn text() -> &'static [u8] {
-    b"1: ok\n2: ok\n3: ok 1\n4: refused linked /a 1-2-1 delete\n5: ok 1\n6: ok\n"
+    b"1: ok\n2: ok\n3: ok 1\n4: refused linked /a 1-2-1 delete\n5: ok 1-3\n6: ok 1\n7: ok\n8: ok commit 3\n9: ok\n10: ok\n\
+      11: ok 1-4\n12: ok 1\n13: ok\n14: ok\n"
 }
 
 /// What is found by a look at files and rows, which tells how many of the steps are there: none, the file, the table, the row, none of
-/// them again, and the second file. The texts of the first two differ from no table at all.
+/// them again, and the second file, behind which nothing is to be seen. The texts of the first two differ from no table at all.
 fn looks() -> [&'static [u8]; 6] {
     [
         b"1: ok files 0\n2: refused no table m\n",
@@ -35,11 +45,11 @@ fn looks() -> [&'static [u8]; 6] {
 
 /// How many bytes are told before each of the lines whose steps lead to these, and how many once they are told.
 fn told_before() -> [usize; 6] {
-    [0, 0, 6, 12, 54, 62]
+    [0, 0, 6, 12, 78, 99]
 }
 
 fn told_behind() -> [usize; 6] {
-    [0, 6, 12, 20, 62, 68]
+    [0, 6, 12, 20, 93, 106]
 }
 
 fn look() -> &'static [u8] {
@@ -47,7 +57,7 @@ fn look() -> &'static [u8] {
 }
 
 /// How many fuses there are to try: with the last one, of one less, the run ends well.
-const FUSES: u64 = 134;
+const FUSES: u64 = 154;
 
 /// More calls than a reopening makes.
 const REOPENING: u64 = 60;
@@ -182,9 +192,9 @@ fn a_stop_after_each_call(rt: HostRuntime) {
 const CALLS: [(Call, u64); 5] = [
     (Call::Length, 5),
     (Call::Read, 5),
-    (Call::Write, 73),
-    (Call::Sync, 44),
-    (Call::Say, 6),
+    (Call::Write, 81),
+    (Call::Sync, 48),
+    (Call::Say, 14),
 ];
 
 /// Whether a run of which this call fails ends well, where what is found after a crash goes with what it told; `None` where not.

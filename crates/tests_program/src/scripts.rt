@@ -153,8 +153,55 @@ fn plain() -> [Row; 4] {
         ),
         (
             b"run",
-            b"! archive\n! crash both\n! tick 5\nA: CREATE TABLE m (f DATALINK LINKTYPE URL FILE LINK CONTROL INTEGRITY ALL READ PERMISSION DB WRITE PERMISSION BLOCKED RECOVERY YES ON UNLINK DELETE)\n@ann read $A\n",
+            b"! archive\n! crash both\n! backup\nA: CREATE TABLE m (f DATALINK LINKTYPE URL FILE LINK CONTROL INTEGRITY ALL READ PERMISSION DB WRITE PERMISSION BLOCKED RECOVERY YES ON UNLINK DELETE)\n@ann read $A\n",
             b"1: refused not built\n2: refused not built\n3: refused not built\n4: refused not built\n5: refused no value A\n",
+        ),
+    ]
+}
+
+/// A token that is good up to its second, and no token of another link on the same path, by the lines that move the moment on; and the
+/// moment past the greatest at which a run begins, also within a transaction, and behind a line that is none.
+fn clock() -> [Row; 2] {
+    [
+        (
+            b"run --now 100 --life 60",
+            b"@ann create /a one\n\
+              A: CREATE TABLE m (id INTEGER PRIMARY KEY, f DATALINK LINKTYPE URL FILE LINK CONTROL INTEGRITY ALL READ PERMISSION DB WRITE PERMISSION BLOCKED RECOVERY NO ON UNLINK RESTORE)\n\
+              A: INSERT INTO m VALUES (1, DLVALUE('http://fs1/a'))\n\
+              @bob read /a\n\
+              A: SELECT DLURLPATH(f) FROM m\n\
+              @bob read $A\n\
+              ! tick 60\n\
+              @bob read $A\n\
+              ! tick 1\n\
+              @bob read $A\n\
+              A: DELETE FROM m\n\
+              A: INSERT INTO m VALUES (1, DLVALUE('http://fs1/a'))\n\
+              @bob read $A\n\
+              @bob read $B\n",
+            b"1: ok\n2: ok\n3: ok 1\n4: refused linked /a 1-2-1 no token\n5: rows 1\n5| '/160.7b57fb557152e2fec9555e464dc197b6;a'\n\
+              6: bytes 3\n6| one\n7: ok\n8: bytes 3\n8| one\n9: ok\n10: refused linked /a 1-2-1 expired 160\n11: ok 1\n12: ok 1\n\
+              13: refused linked /a 1-5-1 wrong token\n14: refused no value B\n",
+        ),
+        (
+            b"run --now 9007199254740992 --life 1",
+            b"@ann create /a one\n\
+              A: CREATE TABLE m (id INTEGER PRIMARY KEY, f DATALINK LINKTYPE URL FILE LINK CONTROL INTEGRITY ALL READ PERMISSION DB WRITE PERMISSION BLOCKED RECOVERY NO ON UNLINK RESTORE)\n\
+              A: INSERT INTO m VALUES (1, DLVALUE('http://fs1/a'))\n\
+              A: SELECT DLURLPATH(f) FROM m\n\
+              ! tick 1000000001\n\
+              ! tick 0\n\
+              ! tick 1\n\
+              @bob read $A\n\
+              A: BEGIN\n\
+              ! tick 1000000000\n\
+              @bob read $A\n\
+              A: SELECT DLURLPATH(f) FROM m\n\
+              @bob read $A\n\
+              A: ROLLBACK\n",
+            b"1: ok\n2: ok\n3: ok 1\n4: rows 1\n4| '/9007199254740993.8c5d4472b3957f914aaa4d7abf843d5d;a'\n5: refused bad line 8\n6: ok\n7: ok\n\
+              8: bytes 3\n8| one\n9: ok 1-4\n10: ok\n11: refused linked /a 1-2-1 expired 9007199254740993\n12: rows 1\n\
+              12| '/9007200254740994.52d5f8f1c37c705a31b8236df5d6c689;a'\n13: bytes 3\n13| one\n14: ok\n",
         ),
     ]
 }
@@ -323,6 +370,13 @@ fn transactions_that_overlap(rt: HostRuntime) {
 #[test]
 fn files_statements_and_bad_lines(rt: HostRuntime) {
     for row in plain() {
+        assert_eq!(rt; tells(rt.alloc(), &row), Some(true));
+    }
+}
+
+#[test]
+fn a_token_that_expires(rt: HostRuntime) {
+    for row in clock() {
         assert_eq!(rt; tells(rt.alloc(), &row), Some(true));
     }
 }

@@ -1,4 +1,5 @@
-use Rattle.std.proofs.Common.{◌≡◌, length, Err, ap, subst, sym, ◌∙◌, arith}
+use Rattle.std.proofs.Common.{◌≡◌, length, Err, refl, ap, subst, sym, ◌∙◌, arith}
+use Rattle.dl_areas.specs.Opening.{IsInOpening}
 use Rattle.dl_base.proofs.Moments.{moments_none}
 use Rattle.datalinks.proofs.Complete.{run-done, script-done}
 use Rattle.datalinks.proofs.Opened.{begins-read}
@@ -33,6 +34,9 @@ returns-in-Ok-clause-complete g c run begins short room calm =
 
 pub returns-in-Err-clause-history : goal.returns-in-Err-clause-history
 returns-in-Err-clause-history g c run begins = moments_none (IsInside run (g.B.Bench.outside c.args.bench)) (g.B.Bench.outside c.args.bench)
+
+pub returns-in-Err-clause-unopened : goal.returns-in-Err-clause-unopened
+returns-in-Err-clause-unopened g c x told nothing = (moments_none (IsInOpening (g.B.Bench.outside c.args.bench)) (g.B.Bench.outside c.args.bench), refl)
 
 pub returns-in-Err-clause-complete : goal.returns-in-Err-clause-complete
 returns-in-Err-clause-complete g c run begins short room calm =

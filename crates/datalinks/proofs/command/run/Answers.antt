@@ -78,6 +78,12 @@ returns-in-Ok-run_lines-clause-stood g c was x told =
     let begun = c.in-Ok.ensures.begun in
     found-stands begun.0 begun.1 (g.B.Bench.outside c.args.bench) (begun.2.found x told) x told
 
+pub returns-in-Ok-run_lines-clause-unopened : goal.returns-in-Ok-run_lines-clause-unopened
+returns-in-Ok-run_lines-clause-unopened g c x told nothing =
+    let begun = c.in-Ok.ensures.begun in
+    let stood = found-stands begun.0 begun.1 (g.B.Bench.outside c.args.bench) (begun.2.found x told) x told in
+    absurd (nothing stood.0 stood.1)
+
 pub returns-in-Ok-clause-history : goal.returns-in-Ok-clause-history
 returns-in-Ok-clause-history g c run begins =
     let O = g.B.Bench.outside in
@@ -122,6 +128,12 @@ returns-in-Ok-clause-stood g c was x told =
     let begun = c.in-Ok.ensures.begun in
     found-stands begun.0 begun.1 (g.B.Bench.outside c.args.bench) (begun.2.found x told) x told
 
+pub returns-in-Ok-clause-unopened : goal.returns-in-Ok-clause-unopened
+returns-in-Ok-clause-unopened g c x told nothing =
+    let begun = c.in-Ok.ensures.begun in
+    let stood = found-stands begun.0 begun.1 (g.B.Bench.outside c.args.bench) (begun.2.found x told) x told in
+    absurd (nothing stood.0 stood.1)
+
 -- where the areas do not open
 
 pub returns-clause-history : goal.returns-clause-history
@@ -139,6 +151,9 @@ returns-clause-not_a_store g c area place is =
       unwritten = c.in-Err.ensures.unwritten area place which;
       told = c.open.ensures.told;
     }
+
+pub returns-clause-unopened : goal.returns-clause-unopened
+returns-clause-unopened g c x told nothing = (c.open.ensures.unopened x told nothing, c.open.ensures.told)
 
 pub returns-clause-full : goal.returns-clause-full
 returns-clause-full g c full is run begins =

@@ -1,4 +1,6 @@
-use Rattle.std.proofs.Common.{⊎_elim}
+use Rattle.std.proofs.Common.{⊎_elim, refl}
+use Rattle.dl_areas.specs.Opening.{IsInOpening}
+use Rattle.dl_base.proofs.Moments.{moments_none}
 use Rattle.meaning_run.specs.Running.{after}
 use Rattle.meaning_system.specs.State.{stored}
 use Rattle.meaning_system.specs.Writes.{opening}
@@ -37,3 +39,11 @@ returns-in-Ok-clause-complete g c run begins =
 
 pub returns-in-Err-Memory-clause-recovers : goal.returns-in-Err-Memory-clause-recovers
 returns-in-Err-Memory-clause-recovers g c run begins every p left = untouched-stands (g.B.Bench.outside c.args.bench) (g.met.B.Bench.lawful c.args.bench) every p left
+
+-- where nothing was touched
+
+pub returns-in-Err-Usage-clause-unopened : goal.returns-in-Err-Usage-clause-unopened
+returns-in-Err-Usage-clause-unopened g c x told nothing = (moments_none (IsInOpening (g.B.Bench.outside c.args.bench)) (g.B.Bench.outside c.args.bench), refl)
+
+pub returns-in-Err-Memory-clause-unopened : goal.returns-in-Err-Memory-clause-unopened
+returns-in-Err-Memory-clause-unopened g c x told nothing = (moments_none (IsInOpening (g.B.Bench.outside c.args.bench)) (g.B.Bench.outside c.args.bench), refl)

@@ -13,7 +13,7 @@ use Rattle.meaning_areas.specs.Stands.{stored_of}
 use Rattle.meaning_system.specs.Writes.{opening}
 use Rattle.sys_opening.proofs.Records.{opening-sound, same-folds}
 use Rattle.sys_opening.proofs.Halts.{halts-images, halts-told, risen}
-use Rattle.sys_opening.proofs.Reading.{found-told, unlike-told}
+use Rattle.sys_opening.proofs.Reading.{found-told, stand-told, unlike-told}
 use Rattle.sys_opening.proofs.Spelling.{all-spelled}
 use Rattle.sys_opening.proofs.Trying.{tries-fronts, tries-whole}
 use Rattle.sys_opening.specs.Begun.{IsOfOpening}
@@ -55,6 +55,9 @@ returns-in_err-owners-clause-stands g c full is lists read =
     let same : c.from_residual.result ≡ Err c.in_err-owners.field-0.0 = search rules in
     absurd (c.in_err-owners.ensures.no_full full (sym same ∙ is))
 
+pub returns-in_err-owners-clause-unopened : goal.returns-in_err-owners-clause-unopened
+returns-in_err-owners-clause-unopened g c x told nothing = c.in_err-owners.ensures.opens.moments
+
 -- where their lists do not fit each other, or there is no memory to compare them
 
 pub compare-requires : goal.compare-requires
@@ -84,6 +87,9 @@ returns-in-Ok-Some-clause-no_store g c area place is x told =
 pub returns-in-Ok-Some-clause-unwritten : goal.returns-in-Ok-Some-clause-unwritten
 returns-in-Ok-Some-clause-unwritten g c area place is = c.in_ok-owners.ensures.opens.moments
 
+pub returns-in-Ok-Some-clause-unopened : goal.returns-in-Ok-Some-clause-unopened
+returns-in-Ok-Some-clause-unopened g c x told nothing = c.in_ok-owners.ensures.opens.moments
+
 pub returns-in-Err-clause-images : goal.returns-in-Err-clause-images
 returns-in-Err-clause-images g c lists f found =
     let O = g.B.Bench.outside in
@@ -93,6 +99,9 @@ pub returns-in-Err-clause-fronts : goal.returns-in-Err-clause-fronts
 returns-in-Err-clause-fronts g c lists f found =
     let O = g.B.Bench.outside in
     moments_more (IsInOpening (O c.args.bench.now)) (IsOfOpening lists (opening f) (O c.args.bench.now)) (O c.args.bench.now) (O c.open_all.new.bench) (λ p before. inl before) c.in_ok-owners.ensures.opens.moments
+
+pub returns-in-Err-clause-unopened : goal.returns-in-Err-clause-unopened
+returns-in-Err-clause-unopened g c x told nothing = c.in_ok-owners.ensures.opens.moments
 
 -- the records
 
@@ -172,6 +181,14 @@ returns-in-Ok-clause-fronts g c lists f found =
     (tries-fronts c.args.limit lists js ks (opening (folds_in w)) None (O o) (O m) (O n) c.in-Ok.ensures.tries
     (λ us ending d. c.an_opening_writes_its_records.ensures.images c.args.limit js ks opened.0 lists us ending o m n opened.1 d found.read))
 
+pub returns-in-Ok-clause-unopened : goal.returns-in-Ok-clause-unopened
+returns-in-Ok-clause-unopened g c x told nothing =
+    let O = g.B.Bench.outside in
+    let w = c.in_ok-owners.owners in
+    let opened = c.in_ok-owners.ensures.opened in
+    let stand = c.in-Ok-None.ensures.fits (ap (λ (a : Option Area). Ok a) c.in-Ok-None.field-0-is) in
+    absurd (nothing (stored_of (folds_in w)) (stand-told c.args.limit (journals_of w) opened.0 (O c.args.bench.now) (O c.open_all.new.bench) opened.1 x told (folds_in w) opened.2 stand))
+
 pub returns-in-Ok-clause-told : goal.returns-in-Ok-clause-told
 returns-in-Ok-clause-told g c = c.in-Ok.ensures.halts.told ∙ c.in_ok-owners.ensures.opens.told
 
@@ -226,6 +243,14 @@ returns-in-Err-write_all-clause-unwritten g c area place is =
     let w = c.in_ok-owners.owners in
     let at : c.in-Err-write_all.fault ≡ faults.NotAStore area place = cc in
     absurd (subst (λ (e : OpenFault). Halts (journals_of w) (journals_of c.write_all.new.owners) (as_writes (opening (folds_in w))) (Some e) (O c.open_all.new.bench) (O c.write_all.new.bench)) at c.in-Err-write_all.ensures.halts)
+
+pub returns-in-Err-write_all-clause-unopened : goal.returns-in-Err-write_all-clause-unopened
+returns-in-Err-write_all-clause-unopened g c x told nothing =
+    let O = g.B.Bench.outside in
+    let w = c.in_ok-owners.owners in
+    let opened = c.in_ok-owners.ensures.opened in
+    let stand = c.in-Ok-None.ensures.fits (ap (λ (a : Option Area). Ok a) c.in-Ok-None.field-0-is) in
+    absurd (nothing (stored_of (folds_in w)) (stand-told c.args.limit (journals_of w) opened.0 (O c.args.bench.now) (O c.open_all.new.bench) opened.1 x told (folds_in w) opened.2 stand))
 
 pub returns-in-Err-write_all-clause-full : goal.returns-in-Err-write_all-clause-full
 returns-in-Err-write_all-clause-full g c full is lists f found =

@@ -1,8 +1,9 @@
-use Rattle.std.proofs.Common.{◌≡◌, ◌||◌, ℕ, List, Option, Some, refl, sym, ap, ◌∙◌, subst}
+use Rattle.std.proofs.Common.{◌≡◌, ◌<◌, ◌||◌, ℕ, List, length, Option, Some, refl, sym, ap, ◌∙◌, subst}
+use Rattle.dl_base.specs.Limits.{most_actors}
 use Rattle.meaning_run.specs.Running.{met}
 use Rattle.meaning_script.specs.Actors.{actor_of, is_extra, with_actor}
 use Rattle.sys_run.proofs.Lines.{not-false}
-use Rattle.sys_run.proofs.Meeting.{met-more, met-same, no-mark, session-named}
+use Rattle.sys_run.proofs.Meeting.{met-more, met-same, no-mark, room-for-one, session-named}
 use Rattle.sys_run.specs.Running.{AreOf}
 use Rattle.sys_run.specs.Sessions.{is_seated}
 use Rattle.sys_run.proofs.sessions.Sessions.meet.Goals as goal
@@ -11,7 +12,12 @@ pub seat-requires : goal.seat-requires
 seat-requires c =
     let e : actor_of c.args.line.now ≡ Some c.in-Some.name.now = sym c.in-Some.ensures in
     let seated = sym (c.is_seated-seated.ensures ∙ ap (is_seated c.args.self.now.actors) c.actor_of.ensures) ∙ c.if-not-seated.true in
-    record { name = session-named c.args.line.now c.in-Some.name.now e (no-mark c.args.self.now.actors c.in-Some.name.now (ap (is_seated c.args.self.now.actors) (sym e) ∙ seated)) }
+    let extra = not-false (is_extra c.args.self.now.actors (actor_of c.args.line.now)) (sym c.if-not-branch.false ∙ c.in_ok-meet.ensures.counted) in
+    let unseated = ap (is_seated c.args.self.now.actors) (sym e) ∙ seated in
+    record {
+      name = session-named c.args.line.now c.in-Some.name.now e (no-mark c.args.self.now.actors c.in-Some.name.now unseated);
+      few = subst (λ (l : List (List ℕ)). length l < most_actors) (sym c.requires.names) (room-for-one c.args.self.now.actors c.in-Some.name.now unseated (ap (is_extra c.args.self.now.actors) (sym e) ∙ extra));
+    }
 
 pub returns-in_ok-seat-in-Some-clause-met : goal.returns-in_ok-seat-in-Some-clause-met
 returns-in_ok-seat-in-Some-clause-met c r of =
