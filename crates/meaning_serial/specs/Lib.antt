@@ -1,0 +1,4 @@
+pub mod Alike
+pub mod Freely
+pub mod Scripts
+pub mod Serial
