@@ -1,0 +1,3 @@
+pub mod Controlled
+pub mod Behind
+pub mod Running
