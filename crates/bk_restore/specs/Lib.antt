@@ -1,0 +1,4 @@
+pub mod Differing
+pub mod Handles
+pub mod Losing
+pub mod Planning
