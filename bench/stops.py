@@ -1,0 +1,234 @@
+#!/usr/bin/env python3
+"""Stops the machine at each device call of a script, and looks at what the built program finds then: rows, links and files are as some of
+the steps leave them. Ends with `N passed, M failed`, and with status 1 where one failed.
+
+    bench/stops.py [PROGRAM]
+
+- **Made**: the areas as a crash leaves them at each of the six calls of each record that the script and the opening before it write, where
+  what was not synced is kept, lost or torn; the program then finds what bench/model.py says. The same where that run, which opens what
+  the crash left, is itself stopped at each call of each of its records.
+- **Killed**: the program is killed at each of its calls that write or sync, by strace, and each of these calls fails once, which is status
+  3. What stands in the areas then is what the first records of the script leave, in the model's order; all that was told stands, and the
+  line behind it is the last with a record. The next run finds what the model says. A call that is interrupted is made again. These are
+  left out where there is no strace.
+"""
+import os
+import shutil
+import signal
+import subprocess
+import sys
+
+import model
+import scripts
+from model import AREAS, Folder, Stop, u64
+from model_sql import BUILT
+from scripts import EVERY_RECORD, LOOK, areas_in, check, counts, room, run
+
+# A transaction that gives and takes at once: its Finish has each kind of record, and changes two files.
+MOVED = "".join(
+    line + "\n"
+    for line in [
+        "@ann create /a one",
+        "@ann create /b two",
+        "A: " + scripts.table("m", BUILT[3]),
+        "A: " + scripts.table("n", BUILT[2]),
+        f"A: INSERT INTO m VALUES (1, {scripts.dl('/a')})",
+        "A: BEGIN",
+        "A: DELETE FROM m",
+        f"A: INSERT INTO n VALUES (1, {scripts.dl('/b')})",
+        "B: BEGIN",
+        f"B: INSERT INTO m VALUES (2, {scripts.dl('/c')})",
+        "A: !prepare",
+        "@ann delete /b",
+        "A: !decide",
+        "A: !finish",
+        "B: COMMIT",
+        f"A: UPDATE n SET f = NULL",
+    ]
+)
+LOOKS = LOOK + "A: SELECT id, f FROM n\n@ann read /a\n@ann read /b\n"
+
+
+def closed(area):
+    """An area up to its closing gate, as it is written when nothing stands behind it."""
+    at = 0
+    while len(area) > 1 and area[at] == 1:
+        at += 9 + int.from_bytes(area[at + 1 : at + 9], "big")
+    return area[:at] + b"\0"
+
+
+def inverted(part):
+    return bytes(byte ^ 255 for byte in part)
+
+
+def images(held, body):
+    """What a crash may leave of an area while a record is appended, and whether the record is one of its list then."""
+    before, parts = held[:-1] + b"\0", [u64(len(body)), body, b"\0"]
+    yield "before it", held, False
+    for i in range(1, 4):
+        written = b"".join(parts[:i])
+        yield f"{i} parts kept", before + written, False
+        yield f"{i} parts torn", before + inverted(written), False
+    yield "closed", before + b"".join(parts), False
+    yield "its gate torn", held[:-1] + b"\xfe" + b"".join(parts), False
+    yield "its gate open", held[:-1] + b"\1" + b"".join(parts), True
+
+
+def at_record(folder, text, left):
+    """The folder as a stop at this record of a run leaves it, and the record; None for that where the run ends before."""
+    there = folder.copy()
+    there.left = left
+    try:
+        model.run(there, "run", text)
+        return there, None
+    except Stop as stop:
+        there.left = None
+        return there, (stop.area, stop.body)
+
+
+def found(areas):
+    """What the program finds in these areas: its status, what it tells, and what stands in them then."""
+    with room() as folder:
+        for area in AREAS:
+            with open(os.path.join(folder, f"datalinks.{area}"), "wb") as file:
+                file.write(areas[area])
+        ended = run(folder, "run", LOOKS)
+        return ended + ({area: closed(held) for area, held in areas_in(folder).items()},)
+
+
+def wanted(folder):
+    there = folder.copy()
+    return model.run(there, "run", LOOKS) + (there.areas,)
+
+
+def stops_of(name, folder, text, inside):
+    """Every stop of a run in a folder, and what is found then; `inside` does the same of the run behind each stop."""
+    left = 0
+    while True:
+        there, record = at_record(folder, text, left)
+        behind = at_record(folder, text, left + 1)[0] if record else None
+        if record is None:
+            check(f"{name}: at its end", found(there.areas), wanted(there))
+        else:
+            area, body = record
+            for how, image, counts_now in images(there.areas[area], body):
+                left_there = behind if counts_now else there
+                check(f"{name}: record {left + 1}, of {area}, {how}", found({**there.areas, area: image}), wanted(left_there))
+        if inside:
+            inside(f"{name}, stopped at record {left + 1}, opened again", there)
+        if record is None:
+            return
+        left += 1
+
+
+def made(name, text):
+    stops_of(name, Folder(), text, lambda where, there: stops_of(where, there, "", None))
+
+
+# ---- killed, and calls that fail
+
+CALLS = ("pwrite64", "write", "fdatasync", "fsync", "ftruncate")
+
+
+def traced(folder, call, how, number, text):
+    """The status and what is told of a run whose call of a kind, the one of this number, is made to do so."""
+    words = ["strace", "-f", "-qq", "-o", "/dev/null", "-e", f"trace={call}", "-e", f"inject={call}:{how}:when={number}", scripts.program, "run"]
+    ended = subprocess.run(words, cwd=folder, input=text.encode("latin-1"), stdout=subprocess.PIPE, stderr=subprocess.DEVNULL, timeout=100)
+    return ended.returncode, ended.stdout.decode("latin-1")
+
+
+def written_by_line(text):
+    """The records of a whole run, and how many of them there are behind the opening and behind each line that is answered."""
+    folder = Folder()
+    this = model.Run(folder, "run")
+    this.open()
+    behind, told = [len(folder.written)], [""]
+    for answer in this.script(text):
+        if answer:
+            behind.append(len(folder.written))
+            told.append(told[-1] + answer)
+    return folder, behind, told
+
+
+def records_in(area):
+    """The bodies of an area's list."""
+    at, bodies, list_of = 0, [], closed(area)
+    while at + 1 < len(list_of):
+        length = int.from_bytes(list_of[at + 1 : at + 9], "big")
+        bodies.append(list_of[at + 9 : at + 9 + length])
+        at += 9 + length
+    return bodies
+
+
+def front_of(written, areas):
+    """How many of the first records these areas have; None where they have others."""
+    held = {area: records_in(areas[area]) for area in AREAS}
+    count = sum(map(len, held.values()))
+    first = {area: [body for of, body in written[:count] if of == area] for area in AREAS}
+    return count if held == first else None
+
+
+def held_in(folder):
+    """The areas of a folder in which some may not be made yet."""
+    for area in AREAS:
+        with open(os.path.join(folder, f"datalinks.{area}"), "ab"):
+            pass
+    return areas_in(folder)
+
+
+def is_behind(count, said, behind, told):
+    """Whether so many records go with what was told: those of all lines that were told are there, and at most those of one line more."""
+    if count is None or not told[-1].startswith(said):
+        return False
+    lines = max(i for i, front in enumerate(told) if said.startswith(front))
+    return (behind[lines] if said else 0) <= count <= behind[min(lines + 1, len(behind) - 1)]
+
+
+def stopped(name, text, how, status):
+    """A run that is stopped so at each of its calls; how many calls of each kind it makes."""
+    whole, behind, told = written_by_line(text)
+    calls = {}
+    for call in CALLS:
+        for number in range(1, 100_000):
+            with room() as folder:
+                ended, said = traced(folder, call, how, number, text)
+                if ended == 0:
+                    calls[call] = number - 1
+                    break
+                where = f"{name}, {how}, at {call} {number}"
+                count = front_of(whole.written, held_in(folder))
+                if check(f"{where}: what is told and what stands", (ended, is_behind(count, said, behind, told)), (status, True)):
+                    there, _ = at_record(Folder(), text, count)
+                    found_then = run(folder, "run", LOOKS) + ({area: closed(held) for area, held in areas_in(folder).items()},)
+                    check(f"{where}: what is found", found_then, wanted(there))
+                elif ended not in (status, 3):
+                    sys.exit("strace does not work here")
+    return calls
+
+
+def interrupted(name, text, calls):
+    """A call that is interrupted is made again."""
+    whole, _, told = written_by_line(text)
+    for call, most in calls.items():
+        for number in range(1, most + 1):
+            with room() as folder:
+                ended = traced(folder, call, "error=EINTR", number, text) + (areas_in(folder),)
+                check(f"{name}, {call} {number} interrupted", ended, (0, told[-1], whole.areas))
+
+
+def main():
+    scripts.program = os.path.abspath(sys.argv[1]) if len(sys.argv) > 1 else str(scripts.BUILT_PROGRAM)
+    for name, text in (("every record", EVERY_RECORD), ("one file for another", MOVED)):
+        made(name, text)
+        if shutil.which("strace"):
+            calls = stopped(name, text, "signal=KILL", -signal.SIGKILL)
+            stopped(name, text, "error=EIO", 3)
+            interrupted(name, text, calls)
+        else:
+            print("killed, failed and interrupted: left out, since there is no strace")
+    print(f"{counts['passed']} passed, {counts['failed']} failed")
+    return 1 if counts["failed"] else 0
+
+
+if __name__ == "__main__":
+    sys.exit(main())
