@@ -7,6 +7,7 @@ edits of the crates named, and no other edits are there, and runs `rt must-fail`
 kept. It prints a line for each edit as soon as its crate is done, with the seconds that the crate took for all of them, and the
 counts. The status is 1 where an edit is not refused or not tried, else 0. Nothing in the repository is changed.
 """
+import os
 import pathlib
 import re
 import shutil
@@ -23,6 +24,14 @@ def with_edits():
     return sorted(it.parent.name for it in ROOT.glob("crates/*/wrong") if any(it.glob("*.edit")))
 
 
+def link_or_copy(source, target):
+    """Gives a file a second name, or a copy where that can't be had. The kit removes such a file before it makes it anew."""
+    try:
+        os.link(source, target)
+    except OSError:
+        shutil.copy2(source, target)
+
+
 def copied(room, names):
     """Writes the copy, with the edits of wrong/ in the place of the others."""
     for name in ("crates.txt", "HANDLES"):
@@ -30,6 +39,10 @@ def copied(room, names):
     for crate in sorted((ROOT / "crates").iterdir()):
         left_out = ["must-fail", "wrong"] + ([] if crate.name in names else ["out"])
         shutil.copytree(crate, room / "crates" / crate.name, ignore=shutil.ignore_patterns(*left_out), symlinks=True)
+        # a library that stands there is taken, where it is current; else the kit builds it
+        library = crate / "out" / "rlib"
+        if crate.name not in names and library.is_dir():
+            shutil.copytree(library, room / "crates" / crate.name / "out" / "rlib", copy_function=link_or_copy)
     for name in names:
         shutil.copytree(ROOT / "crates" / name / "wrong", room / "crates" / name / "must-fail")
 
