@@ -1,4 +1,5 @@
 pub mod Asking
+pub mod Awaiting
 pub mod Beginning
 pub mod Behind
 pub mod Between
@@ -7,9 +8,11 @@ pub mod Commanding
 pub mod Deciding
 pub mod Ended
 pub mod Entering
+pub mod Finding
 pub mod Finishing
 pub mod Guarding
 pub mod Knowing
+pub mod Left
 pub mod Managing
 pub mod Others
 pub mod Preparing
@@ -24,5 +27,7 @@ pub mod Starting
 pub mod Stating
 pub mod Stepped
 pub mod Ticking
+pub mod Stored
 pub mod Voted
 pub mod Voting
+pub mod Waiting

@@ -1,6 +1,8 @@
+pub mod Archiving
 pub mod Between
 pub mod Claiming
 pub mod Guarded
+pub mod Numbered
 pub mod Seated
 pub mod Sessions
 pub mod Standing

@@ -2,6 +2,8 @@
 //! commands on files, and the clock.
 #![tactic(auto)]
 
+mod archive;
+mod archiving;
 mod begin;
 mod claim;
 mod clock;
@@ -12,7 +14,9 @@ mod engine;
 mod finish;
 mod guard;
 mod laws;
+mod numbered;
 mod opening;
+mod pending;
 mod prepare;
 mod refusing;
 mod roll_back;
@@ -20,5 +24,6 @@ mod statement;
 mod versions;
 mod vote;
 
+pub use archiving::an_archive_leaves_the_others_pending;
 pub use engine::Engine;
 pub use laws::steps_leave_other_sessions;

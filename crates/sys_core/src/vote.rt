@@ -190,7 +190,7 @@ fn votes_with_one(seats: &Seats) -> Result<u64, Memory>
     }
 }
 
-fn gives_with(seats: &Seats, more: usize) -> Result<u64, Memory>
+pub(crate) fn gives_with(seats: &Seats, more: usize) -> Result<u64, Memory>
     ensures { IfOk result (λ n. n ≡ all_of gives_of seats.now + more) }
 {
     let Some(gives) = seats.gives() else {
