@@ -5,7 +5,8 @@ ghost use Rattle.sql_print.specs.Writing.{text_of};
 ghost use Rattle.sql_echo.specs.Told.{Tells, TellsFault};
 
 use dl_base::{List, Memory, Stmt, Text};
-use sql_syntax::{ParseFault, parse, print, print_again};
+use sql_print::{print, print_again};
+use sql_syntax::{ParseFault, parse};
 use std::alloc::Global;
 
 // Appends a number in decimal.

@@ -1,4 +1,4 @@
-//! Statements of SQL from text, and as text.
+//! Statements of SQL from text.
 #![tactic(auto)]
 
 mod changes;
@@ -11,4 +11,3 @@ mod sentence;
 
 pub use laws::one_answer;
 pub use parser::{ParseFault, parse};
-pub use sql_print::{print, print_again};
