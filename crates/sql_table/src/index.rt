@@ -51,7 +51,7 @@ pub(crate) fn without_marks<K: Ordered>(
 
 /// The index with other marks under a number. Where they are equal to those that it has there, it is the same index, and no page is
 /// copied.
-pub(crate) fn with_other_marks<K: Ordered>(
+fn with_other_marks<K: Ordered>(
     alloc: Global,
     index: &Pages<(K, u64)>,
     before: List<K>,
@@ -87,6 +87,66 @@ fn is_equal<K: Ordered>(mark: &K, other: &K) -> bool
     ensures { result ≡ is_eq (K.order mark.now other.now) }
 {
     mark.order(other) == Ordering::Equal
+}
+
+/// The index with the link numbers of a row.
+pub(crate) fn with_row_links(
+    alloc: Global,
+    columns: &List<Column>,
+    index: &Pages<(LinkNo, u64)>,
+    row: &Row,
+    number: u64,
+) -> Result<Pages<(LinkNo, u64)>, Memory>
+    requires { IsStrictlySortedBy (entry_order link_order) index.now }
+    ensures { IfOk result (λ made. WithMarks link_order (link_marks columns.now row.now) number index.now made) }
+{
+    with_marks(alloc, index, row_marks(columns, row)?, number)
+}
+
+/// The index with the keys of a row.
+pub(crate) fn with_row_keys(
+    alloc: Global,
+    columns: &List<Column>,
+    index: &Pages<(Key, u64)>,
+    row: &Row,
+    number: u64,
+) -> Result<Pages<(Key, u64)>, Memory>
+    requires { IsStrictlySortedBy (entry_order key_order) index.now }
+    ensures { IfOk result (λ made. WithMarks key_order (key_marks columns.now row.now) number index.now made) }
+{
+    with_marks(alloc, index, row_keys(columns, row)?, number)
+}
+
+/// The index with the link numbers of a row in the place of those of another.
+pub(crate) fn with_other_links(
+    alloc: Global,
+    columns: &List<Column>,
+    index: &Pages<(LinkNo, u64)>,
+    before: &Row,
+    row: &Row,
+    number: u64,
+) -> Result<Pages<(LinkNo, u64)>, Memory>
+    requires { IsStrictlySortedBy (entry_order link_order) index.now }
+    ensures { IfOk result (λ made. OtherMarks link_order (link_marks columns.now before.now) (link_marks columns.now row.now) number index.now made) }
+{
+    let old = row_marks(columns, before)?;
+    with_other_marks(alloc, index, old, row_marks(columns, row)?, number)
+}
+
+/// The index with the keys of a row in the place of those of another.
+pub(crate) fn with_other_keys(
+    alloc: Global,
+    columns: &List<Column>,
+    index: &Pages<(Key, u64)>,
+    before: &Row,
+    row: &Row,
+    number: u64,
+) -> Result<Pages<(Key, u64)>, Memory>
+    requires { IsStrictlySortedBy (entry_order key_order) index.now }
+    ensures { IfOk result (λ made. OtherMarks key_order (key_marks columns.now before.now) (key_marks columns.now row.now) number index.now made) }
+{
+    let old = row_keys(columns, before)?;
+    with_other_marks(alloc, index, old, row_keys(columns, row)?, number)
 }
 
 /// The link numbers of a row.
@@ -140,7 +200,7 @@ pub(crate) fn link_index(
     let mut made = Pages::empty();
     for i in 0..rows.len() {
         let item = rows.item(i);
-        made = with_marks(alloc, &made, row_marks(columns, &item.1)?, item.0)?;
+        made = with_row_links(alloc, columns, &made, &item.1, item.0)?;
     }
     Ok(made)
 }
@@ -158,7 +218,7 @@ pub(crate) fn key_index(
     let mut made = Pages::empty();
     for i in 0..rows.len() {
         let item = rows.item(i);
-        made = with_marks(alloc, &made, row_keys(columns, &item.1)?, item.0)?;
+        made = with_row_keys(alloc, columns, &made, &item.1, item.0)?;
     }
     Ok(made)
 }

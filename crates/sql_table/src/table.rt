@@ -11,7 +11,10 @@ ghost use Rattle.sql_table.specs.Places.{IsPlace};
 mod replaying;
 
 use crate::columns::Columns;
-use crate::index::{key_index, link_index, row_marks, with_marks, with_other_marks, without_marks};
+use crate::index::{
+    key_index, link_index, row_marks, with_other_keys, with_other_links, with_row_keys,
+    with_row_links, without_marks,
+};
 use crate::key::{Key, KeyProbe, number_probe, row_keys};
 use dl_base::{Column, Copied, LinkNo, List, Memory, Row, Same, Value};
 use dl_pages::{Pages, Predicate, least};
@@ -358,8 +361,8 @@ fn pushed(
     ensures kept { IfOk result (λ made. IsKept columns.now (number + 1) made.0 made.1 made.2) }
 {
     let alloc = columns.allocator();
-    let links = with_marks(alloc, links, row_marks(columns, &row)?, number)?;
-    let keys = with_marks(alloc, keys, row_keys(columns, &row)?, number)?;
+    let links = with_row_links(alloc, columns, links, &row, number)?;
+    let keys = with_row_keys(alloc, columns, keys, &row, number)?;
     let rows = appended(alloc, rows, number, row)?;
     Ok((rows, links, keys))
 }
@@ -382,20 +385,8 @@ fn exchanged(
 {
     let alloc = columns.allocator();
     let before = &rows.item(place).1;
-    let links = with_other_marks(
-        alloc,
-        links,
-        row_marks(columns, before)?,
-        row_marks(columns, &row)?,
-        number,
-    )?;
-    let keys = with_other_marks(
-        alloc,
-        keys,
-        row_keys(columns, before)?,
-        row_keys(columns, &row)?,
-        number,
-    )?;
+    let links = with_other_links(alloc, columns, links, before, &row, number)?;
+    let keys = with_other_keys(alloc, columns, keys, before, &row, number)?;
     let rows = swapped(alloc, rows, place, number, row)?;
     Ok((rows, links, keys))
 }

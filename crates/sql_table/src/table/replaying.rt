@@ -10,8 +10,8 @@ ghost use Rattle.sql_table.specs.Placing.{with_placed};
 
 use super::{Below, Parts, Table};
 use crate::Tables;
-use crate::index::{row_marks, with_marks};
-use crate::key::{Key, row_keys};
+use crate::index::{with_row_keys, with_row_links};
+use crate::key::Key;
 use crate::link_rows::has_number;
 use dl_base::{Column, LinkNo, List, Memory, Row};
 use dl_pages::Pages;
@@ -98,8 +98,8 @@ fn squeezed(
     ensures kept { IfOk result (λ made. IsKept columns.now next made.0 made.1 made.2) }
 {
     let alloc = columns.allocator();
-    let links = with_marks(alloc, links, row_marks(columns, &row)?, number)?;
-    let keys = with_marks(alloc, keys, row_keys(columns, &row)?, number)?;
+    let links = with_row_links(alloc, columns, links, &row, number)?;
+    let keys = with_row_keys(alloc, columns, keys, &row, number)?;
     let rows = placed(alloc, next, rows, number, row)?;
     Ok((rows, links, keys))
 }

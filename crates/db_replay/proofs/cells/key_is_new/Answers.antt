@@ -1,4 +1,4 @@
-use Rattle.std.proofs.Common.{◌≡◌, ◌+◌, ◌&&◌, Bool, false, not, drop, List, ◌∷◌, sym, ap, ◌∙◌, rules, is_none, is_some}
+use Rattle.std.proofs.Common.{◌≡◌, ◌+◌, ◌&&◌, Bool, false, not, drop, List, ◌∷◌, sym, ap, ◌∙◌, rules, is_none, is_some, arith}
 use Rattle.std.specs.List.{list_all}
 use Rattle.dl_base.specs.declared.column.Column.{Column}
 use Rattle.dl_base.specs.declared.value.Value.{Value}
@@ -6,6 +6,7 @@ use Rattle.meaning_tables.specs.First.{first_number, has_key}
 use Rattle.meaning_tables.specs.Fits.{is_key, key_of}
 use Rattle.db_replay.proofs.CellLaws.{key_step}
 use Rattle.db_replay.proofs.Loops.{next}
+use Rattle.std.proofs.lemmas.Grind.{common_steps}
 use Rattle.db_replay.proofs.cells.key_is_new.Goals as goal
 
 pub loop-i-preserved : goal.loop-i-preserved
@@ -24,3 +25,12 @@ loop-i-preserved c =
     ∙ ap (λ (cs : List Column). list_all (λ v. is_none (first_number (has_key t.columns v) t.rows)) (key_of cs (v ∷ behind))) (sym columns)
     ∙ ap (λ (vs : List Value). list_all (λ v. is_none (first_number (has_key t.columns v) t.rows)) (key_of (drop c.loop-i.i t.columns) vs)) (sym values)
     ∙ c.loop-i.invariant
+
+pub returns-then-is_stood_key : goal.returns-then-is_stood_key
+returns-then-is_stood_key c = grind (arith, common_steps)
+
+pub returns : goal.returns
+returns c = grind (arith, common_steps)
+
+pub returns-then-values-i : goal.returns-then-values-i
+returns-then-values-i c = grind (arith, common_steps)

@@ -1,8 +1,9 @@
-use Rattle.std.proofs.Common.{◌≡◌, ◌+◌, ◌&&◌, ℕ, Bool, true, false, not, bytes_eq, drop, List, map, refl, sym, ap, ◌∙◌, rules}
+use Rattle.std.proofs.Common.{◌≡◌, ◌+◌, ◌&&◌, ℕ, Bool, true, false, not, bytes_eq, drop, List, map, refl, sym, ap, ◌∙◌, rules, arith}
 use Rattle.std.specs.List.{list_any}
 use Rattle.dl_base.specs.declared.column.Column.{Column}
 use Rattle.meaning_tables.specs.Fits.{differ}
 use Rattle.db_replay.proofs.Loops.{any_mapped, next}
+use Rattle.std.proofs.lemmas.Grind.{common_steps}
 use Rattle.db_replay.proofs.columns.names_differ.Goals as goal
 
 abbrev name_of : Column → List ℕ
@@ -27,3 +28,6 @@ loop-i-preserved c =
     let new : list_any (λ (x : Column). bytes_eq d.name x.name) rest ≡ false = search rules in
     let none = any_mapped (bytes_eq d.name) name_of rest ∙ new in
     ap (λ (b : Bool). not b && differ bytes_eq (map name_of rest)) (sym none) ∙ ap (λ (xs : List Column). differ bytes_eq (map name_of xs)) (sym at) ∙ c.loop-i.invariant
+
+pub returns : goal.returns
+returns c = grind (arith, common_steps)

@@ -1,4 +1,4 @@
-use Rattle.std.proofs.Common.{◌≡◌, ◌+◌, Bool, true, List, Option, Some, drop, is_some, sym, ap, subst, ◌∙◌, rules}
+use Rattle.std.proofs.Common.{◌≡◌, ◌+◌, Bool, true, List, Option, Some, drop, is_some, sym, ap, subst, ◌∙◌, rules, arith}
 use Rattle.std.specs.Bool.{then_some}
 use Rattle.std.specs.Option.{option_and_then}
 use Rattle.dl_codec.specs.declared.rows.TableChange.{TableChange}
@@ -9,6 +9,7 @@ use Rattle.db_replay.specs.Changes.{apply, applied}
 use Rattle.db_replay.specs.declared.changes.Change.{Change}
 use Rattle.db_replay.proofs.Applied.{one_more}
 use Rattle.db_replay.proofs.Loops.{next}
+use Rattle.std.proofs.lemmas.Grind.{common_steps}
 use Rattle.db_replay.proofs.replaying.change_all.Goals as goal
 
 pub loop-change-preserved : goal.loop-change-preserved
@@ -28,3 +29,9 @@ loop-change-preserved c =
       handles = λ before at new. subst (λ (hs : List Change). (applied before hs ≡ c.change_one.new.tables) × (are_new before hs ≡ true)) (sym c.in_ok-push-in-Some.ensures.ok)
           (one_more before c.loop-change.tables c.change_one.new.tables c.loop-change.made h (c.loop-change.invariant.handles before at new) leads);
     }
+
+pub returns-in-None-clause-exact : goal.returns-in-None-clause-exact
+returns-in-None-clause-exact c = grind (arith, common_steps)
+
+pub returns-clause-exact : goal.returns-clause-exact
+returns-clause-exact c = grind (arith, common_steps)

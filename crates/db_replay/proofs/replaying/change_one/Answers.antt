@@ -1,4 +1,4 @@
-use Rattle.std.proofs.Common.{◌≡◌, ◌++◌, ◌∷◌, [], ℕ, Bool, true, false, List, None, is_none, is_some, sym, ap, ◌∙◌, rules}
+use Rattle.std.proofs.Common.{◌≡◌, ◌++◌, ◌∷◌, [], ℕ, Bool, true, false, List, None, is_none, is_some, sym, ap, ◌∙◌, rules, arith}
 use Rattle.std.specs.Bool.{then_some}
 use Rattle.dl_base.specs.declared.column.Column.{Column}
 use Rattle.dl_codec.specs.declared.rows.TableChange.{TableChange}
@@ -6,6 +6,7 @@ use Rattle.dl_codec.specs.declared.rows.TableChange.TheVariants as changes
 use Rattle.meaning_areas.specs.Commits.{columns_stand, with_table_change}
 use Rattle.meaning_tables.specs.Tables.{Tables, new_table, table_of, with_table}
 use Rattle.db_replay.proofs.Changing.{new_as_kept, put-last}
+use Rattle.std.proofs.lemmas.Grind.{common_steps}
 use Rattle.db_replay.proofs.replaying.change_one.Goals as goal
 
 pub returns-in_ok-copy-in-Some-clause-exact : goal.returns-in_ok-copy-in-Some-clause-exact
@@ -62,3 +63,9 @@ returns-in-None-clause-exact c =
     ∙ sym (new_as_kept v ts name columns c.in-New.next c.in-New.made none stand)
     ∙ ap (λ (us : Tables). with_table_change v us kept) (sym added)
     ∙ c.in_ok-table-in-New.ensures.exact ∙ ap (λ (b : Bool). then_some b c.change_table.new.tables) there
+
+pub returns-in-None-2-clause-exact : goal.returns-in-None-2-clause-exact
+returns-in-None-2-clause-exact c = grind (arith, common_steps)
+
+pub returns-in_ok-copy-in-Some-2-clause-exact : goal.returns-in_ok-copy-in-Some-2-clause-exact
+returns-in_ok-copy-in-Some-2-clause-exact c = grind (arith, common_steps)

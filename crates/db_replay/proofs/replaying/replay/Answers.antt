@@ -1,4 +1,4 @@
-use Rattle.std.proofs.Common.{◌≡◌, Bool, true, cond, List, Option, Some, None, sym, ap, ◌∙◌, rules}
+use Rattle.std.proofs.Common.{◌≡◌, Bool, true, cond, List, Option, Some, None, sym, ap, ◌∙◌, rules, arith}
 use Rattle.std.proofs.lemmas.Bool.{OnTrue_at}
 use Rattle.std.specs.Bool.{then_some}
 use Rattle.meaning_areas.specs.Commits.{with_table_changes}
@@ -8,6 +8,7 @@ use Rattle.db_replay.specs.Changes.{applied}
 use Rattle.db_replay.specs.Replaying.{fitted}
 use Rattle.db_replay.specs.declared.changes.Change.{Change}
 use Rattle.db_replay.proofs.Changing.{columns_kept, fits_where_rows_stand}
+use Rattle.std.proofs.lemmas.Grind.{common_steps}
 use Rattle.db_replay.proofs.replaying.replay.Goals as goal
 
 pub put_rows_stand-requires : goal.put_rows_stand-requires
@@ -47,3 +48,6 @@ returns-clause-new c =
     let applies : c.in_ok-change_all.field-0 ≡ true = search rules in
     let led = OnTrue_at applies (c.in_ok-change_all.ensures.handles ts (ap (λ (hs : List Change). applied ts hs) c.empty-made.ensures ∙ sym c.in_ok-later.ensures) (ap (λ (hs : List Change). are_new ts hs) c.empty-made.ensures)) in
     led.1
+
+pub returns-clause-handles : goal.returns-clause-handles
+returns-clause-handles c = grind (arith, common_steps)

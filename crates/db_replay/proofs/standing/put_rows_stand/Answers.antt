@@ -1,4 +1,4 @@
-use Rattle.std.proofs.Common.{◌≡◌, ◌+◌, ◌&&◌, Bool, true, drop, List, sym, ap, ◌∙◌, rules}
+use Rattle.std.proofs.Common.{◌≡◌, ◌+◌, ◌&&◌, Bool, true, drop, List, sym, ap, ◌∙◌, rules, arith}
 use Rattle.std.proofs.lemmas.Bool.{OnTrue_at}
 use Rattle.dl_codec.specs.declared.rows.TableChange.{TableChange}
 use Rattle.meaning_tables.specs.Fits.{fits}
@@ -7,6 +7,7 @@ use Rattle.db_replay.specs.Replaying.{columns_stand_in}
 use Rattle.db_replay.specs.Standing.{without_all, without_changed}
 use Rattle.db_replay.proofs.Changing.{columns_without}
 use Rattle.db_replay.proofs.Loops.{next}
+use Rattle.std.proofs.lemmas.Grind.{common_steps}
 use Rattle.db_replay.proofs.standing.put_rows_stand.Goals as goal
 
 pub loop-change-preserved : goal.loop-change-preserved
@@ -23,3 +24,6 @@ loop-change-preserved c =
       rest = ap (λ (ts : Tables). without_all ts rest) done ∙ ap (λ (xs : List TableChange). without_all was xs) (sym at) ∙ c.loop-change.invariant.rest;
       columns = ap (λ (ts : Tables). columns_stand_in ts) done ∙ columns_without was x ∙ c.loop-change.invariant.columns;
     }
+
+pub returns : goal.returns
+returns c = grind (arith, common_steps)

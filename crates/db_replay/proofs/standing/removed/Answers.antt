@@ -1,8 +1,9 @@
-use Rattle.std.proofs.Common.{◌≡◌, Some, None, sym, ap, ◌∙◌, rules}
+use Rattle.std.proofs.Common.{◌≡◌, Some, None, sym, ap, ◌∙◌, rules, arith}
 use Rattle.meaning_tables.specs.Tables.{Rows, table_of, with_table, without_row}
 use Rattle.db_replay.specs.Standing.{is_row, stripped}
 use Rattle.db_replay.proofs.Seats.{none_named, one_named}
 use Rattle.db_replay.proofs.Taking.{on_ok}
+use Rattle.std.proofs.lemmas.Grind.{common_steps}
 use Rattle.db_replay.proofs.standing.removed.Goals as goal
 
 pub returns-in-Some-clause-stripped : goal.returns-in-Some-clause-stripped
@@ -19,3 +20,6 @@ pub returns-in-None-clause-stripped : goal.returns-in-None-clause-stripped
 returns-in-None-clause-stripped c =
     let at : table_of c.args.left.now c.args.name.now ≡ None = search rules in
     sym (none_named c.args.name.now c.args.number c.args.left.now at)
+
+pub returns-in-Some-clause-taken : goal.returns-in-Some-clause-taken
+returns-in-Some-clause-taken c = grind (arith, common_steps)

@@ -1,8 +1,9 @@
-use Rattle.std.proofs.Common.{◌≡◌, ◌&&◌, Bool, sym, ◌∙◌}
+use Rattle.std.proofs.Common.{◌≡◌, ◌&&◌, Bool, sym, ◌∙◌, arith}
 use Rattle.meaning_tables.specs.Fits.{fits}
 use Rattle.meaning_tables.specs.Tables.{table_of}
 use Rattle.db_replay.specs.Standing.{row_stands_in}
 use Rattle.db_replay.proofs.Taking.{if_ok, not_taken, taken}
+use Rattle.std.proofs.lemmas.Grind.{common_steps}
 use Rattle.db_replay.proofs.standing.take_row.Goals as goal
 
 pub returns-in-Some-clause-stand : goal.returns-in-Some-clause-stand
@@ -14,3 +15,6 @@ returns-in-Some-clause-stand c =
 
 pub returns-in-None-clause-stand : goal.returns-in-None-clause-stand
 returns-in-None-clause-stand c = not_taken c.args.left.now c.removed.new.left c.args.name.now c.args.number (sym c.in-None.is ∙ c.in_ok-row.ensures.row) c.in_ok-row.ensures.taken
+
+pub returns-in-Some-clause-taken : goal.returns-in-Some-clause-taken
+returns-in-Some-clause-taken c = grind (arith, common_steps)

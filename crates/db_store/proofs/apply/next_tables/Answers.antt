@@ -1,6 +1,6 @@
 use Rattle.std.proofs.Common.{◌≤◌, ◌-◌, [], length, drop, ap, ◌∙◌, arith}
 use Rattle.meaning_tables.specs.Tables.{Tables}
-use Rattle.db_store.proofs.LogLaws.{next-new, next_past}
+use Rattle.db_store.proofs.LogLaws.{next-new, next_past, past_none}
 use Rattle.db_store.specs.Log.{after_first, all_new}
 use Rattle.db_store.proofs.apply.next_tables.Goals as goal
 
@@ -15,3 +15,6 @@ returns c =
     let last : c.args.commit ≤ length es = omega (arith, c.if-commit-len.false, c.len.ensures.value) in
     next_past c.args.before c.into_tables.result es c.args.commit c.requires.first last c.requires.before
     (c.into_tables.ensures ∙ c.in_ok-apply_entry.ensures ∙ ap (λ (ts : Tables). after_first ts (drop (c.args.commit - 1) es)) c.of-tables.ensures)
+
+pub returns-then-commit-len : goal.returns-then-commit-len
+returns-then-commit-len c = grind (arith, past_none)

@@ -1,5 +1,5 @@
 use Rattle.std.proofs.Common.{◌<◌, ◌∙◌, arith, rules}
-use Rattle.db_store.proofs.LogLaws.{new-turn, past-turn}
+use Rattle.db_store.proofs.LogLaws.{new-turn, past-turn, past_done}
 use Rattle.db_store.proofs.apply.tables_at.Goals as goal
 
 pub loop-i-preserved : goal.loop-i-preserved
@@ -13,3 +13,6 @@ loop-i-preserved c =
       new = new-turn c.loop-i.tables.tables c.apply_entry.new.tables.tables es i (omega (arith, lt, le)) c.in_ok-apply_entry.ensures c.loop-i.invariant.new;
       within = omega (arith, lt);
     }
+
+pub returns : goal.returns
+returns c = grind (arith, past_done)

@@ -4,6 +4,7 @@ use Rattle.dl_journal.specs.Records.{size}
 use Rattle.meaning_areas.specs.Areas.{rows_body, rows_of}
 use Rattle.meaning_areas.specs.Folds.{folded}
 use Rattle.db_store.proofs.Folding.{refused, accepted, place_next, place_below}
+use Rattle.std.proofs.lemmas.Grind.{common_steps}
 use Rattle.db_store.proofs.fold.fold.Goals as goal
 
 pub returns-then-not-branch-clause-refused : goal.returns-then-not-branch-clause-refused
@@ -36,3 +37,9 @@ loop-body-preserved c =
       place = ap (λ (n : ℕ). c.loop-body.place + (9 + n)) c.len.ensures
           ∙ place_next items i c.loop-body.place c.body-item.result c.body-item.result c.loop-body-test.true c.body-item.is c.loop-body.invariant.place;
     }
+
+pub returns-clause-rows : goal.returns-clause-rows
+returns-clause-rows c = grind (arith, common_steps)
+
+pub overflow_add-place : goal.overflow_add-place
+overflow_add-place c = grind (arith, common_steps)

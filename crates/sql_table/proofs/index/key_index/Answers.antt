@@ -1,8 +1,8 @@
-use Rattle.std.proofs.Common.{subst}
+use Rattle.std.proofs.Common.{arith}
 use Rattle.sql_table.specs.Keys.{key_order, key_marks}
-use Rattle.sql_table.specs.Marks.{WithMarks}
 use Rattle.sql_table.proofs.First.{index_next}
 use Rattle.sql_table.proofs.Marking.{index_none}
+use Rattle.std.proofs.lemmas.Grind.{common_steps}
 use Rattle.sql_table.proofs.index.key_index.Goals as goal
 
 pub loop-i-init : goal.loop-i-init
@@ -10,4 +10,7 @@ loop-i-init c = index_none key_order (key_marks c.args.columns.now) c.empty-made
 
 pub loop-i-preserved : goal.loop-i-preserved
 loop-i-preserved c = index_next key_order (key_marks c.args.columns.now) c.args.next c.args.rows.now c.loop-i.i c.item-item.result.now c.loop-i.made c.in_ok-made.made c.requires c.item-item.ensures c.loop-i.invariant
-    (subst (λ ms. WithMarks key_order ms c.item-item.result.now.0 c.loop-i.made c.in_ok-made.made) c.in_ok-row_keys.ensures c.in_ok-made.ensures)
+    c.in_ok-made.ensures
+
+pub returns : goal.returns
+returns c = grind (arith, common_steps)

@@ -1,8 +1,9 @@
-use Rattle.std.proofs.Common.{subst}
+use Rattle.std.proofs.Common.{arith}
 use Rattle.dl_pages.specs.Orders.{link_order}
-use Rattle.sql_table.specs.Marks.{WithMarks, link_marks}
+use Rattle.sql_table.specs.Marks.{link_marks}
 use Rattle.sql_table.proofs.First.{index_next}
 use Rattle.sql_table.proofs.Marking.{index_none}
+use Rattle.std.proofs.lemmas.Grind.{common_steps}
 use Rattle.sql_table.proofs.index.link_index.Goals as goal
 
 pub loop-i-init : goal.loop-i-init
@@ -10,4 +11,7 @@ loop-i-init c = index_none link_order (link_marks c.args.columns.now) c.empty-ma
 
 pub loop-i-preserved : goal.loop-i-preserved
 loop-i-preserved c = index_next link_order (link_marks c.args.columns.now) c.args.next c.args.rows.now c.loop-i.i c.item-item.result.now c.loop-i.made c.in_ok-made.made c.requires c.item-item.ensures c.loop-i.invariant
-    (subst (λ ms. WithMarks link_order ms c.item-item.result.now.0 c.loop-i.made c.in_ok-made.made) c.in_ok-row_marks.ensures c.in_ok-made.ensures)
+    c.in_ok-made.ensures
+
+pub returns : goal.returns
+returns c = grind (arith, common_steps)

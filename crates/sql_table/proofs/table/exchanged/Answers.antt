@@ -1,11 +1,12 @@
-use Rattle.std.proofs.Common.{◌∙◌, ap}
+use Rattle.std.proofs.Common.{◌∙◌, ap, refl}
 use Rattle.std.specs.Option.{option_map}
+use Rattle.sql_table.specs.Keys.{key_marks}
+use Rattle.sql_table.specs.Marks.{link_marks}
 use Rattle.sql_table.proofs.Kept.{kept_replaced}
 use Rattle.sql_table.proofs.table.exchanged.Goals as goal
 
 pub returns-clause-kept : goal.returns-clause-kept
 returns-clause-kept c =
     kept_replaced c.args.columns.now c.args.next c.args.number c.args.rows.now c.in_ok-rows.rows c.args.links.now c.in_ok-links.links c.args.keys.now c.in_ok-keys.keys c.item.result.now.1 c.args.row
-    c.in_ok-row_marks.field-0 c.in_ok-row_marks-2.field-0 c.in_ok-row_keys.field-0 c.in_ok-row_keys-2.field-0
-    c.requires.kept (c.requires.at.found ∙ ap (option_map (λ r. r.1)) c.item.ensures) c.in_ok-row_marks.ensures c.in_ok-row_marks-2.ensures c.in_ok-links.ensures
-    c.in_ok-row_keys.ensures c.in_ok-row_keys-2.ensures c.in_ok-keys.ensures c.in_ok-rows.ensures
+    (link_marks c.args.columns.now c.item.result.now.1) (link_marks c.args.columns.now c.args.row) (key_marks c.args.columns.now c.item.result.now.1) (key_marks c.args.columns.now c.args.row)
+    c.requires.kept (c.requires.at.found ∙ ap (option_map (λ r. r.1)) c.item.ensures) refl refl c.in_ok-links.ensures refl refl c.in_ok-keys.ensures c.in_ok-rows.ensures

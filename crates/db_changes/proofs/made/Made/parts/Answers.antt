@@ -1,4 +1,4 @@
-use Rattle.std.proofs.Common.{◌≤◌, ◌++◌, ℕ, List, drop, length, take, sym, ap, ◌∙◌, subst}
+use Rattle.std.proofs.Common.{◌≤◌, ◌++◌, ℕ, List, drop, length, take, sym, ap, ◌∙◌, subst, arith}
 use Rattle.std.specs.Int.{to_be_bytes, w64}
 use Rattle.dl_base.specs.Limits.{most_tables}
 use Rattle.dl_codec.specs.Rows.{rows_record}
@@ -6,6 +6,7 @@ use Rattle.db_changes.specs.Handles.{NewLast}
 use Rattle.db_changes.specs.Made.{Making, changes_in, record_of}
 use Rattle.db_changes.proofs.Spelled.{is_long, other_fits, other_number}
 use Rattle.db_replay.specs.Applying.{new_in}
+use Rattle.std.proofs.lemmas.Grind.{common_steps}
 use Rattle.db_changes.proofs.made.Made.parts.Goals as goal
 
 pub numbered-requires : goal.numbered-requires
@@ -30,3 +31,9 @@ returns-clause-few c = subst (λ (s : Making). new_in s.handles ≤ most_tables)
 
 pub returns-clause-order : goal.returns-clause-order
 returns-clause-order c = subst (λ (s : Making). NewLast s.handles) c.self.view_is c.self.invariant.order
+
+pub returns-clause-again : goal.returns-clause-again
+returns-clause-again c = grind (arith, common_steps)
+
+pub returns-clause-handles : goal.returns-clause-handles
+returns-clause-handles c = grind (arith, common_steps)

@@ -1,6 +1,7 @@
-use Rattle.std.proofs.Common.{◌+◌, ◌++◌, drop, sym, ap, ◌∙◌}
+use Rattle.std.proofs.Common.{◌+◌, ◌++◌, drop, sym, ap, ◌∙◌, arith}
 use Rattle.sql_table.proofs.Left.{nothing_more}
 use Rattle.sql_table.proofs.Names.{insert_next}
+use Rattle.std.proofs.lemmas.Grind.{common_steps}
 use Rattle.db_changes.proofs.touched.TouchedRows.share.Goals as goal
 use Rattle.db_changes.proofs.touched.TouchedRows.share.Goals.{in-Some+in_ok-put_shared-in-Some, in-None}
 
@@ -16,3 +17,9 @@ loop-i-preserved c =
           ap (λ m. m.entries ++ rest) w.entries-is
           ∙ ap (λ es. c.loop-i.entries.entries ++ es) (nothing_more c.args.self.now c.loop-i.i w.in-None.ensures.left ∙ sym w.in-None.ensures.left) ∙ c.loop-i.invariant
     ]
+
+pub invariant_of-result : goal.invariant_of-result
+invariant_of-result c = grind (arith, common_steps)
+
+pub returns : goal.returns
+returns c = grind (arith, common_steps)

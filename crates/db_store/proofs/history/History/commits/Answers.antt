@@ -4,7 +4,7 @@ use Rattle.std.specs.Option.{option_map}
 use Rattle.db_replay.specs.declared.replaying.Replayed.{Replayed}
 use Rattle.meaning_areas.specs.Commits.{Commits}
 use Rattle.db_store.proofs.Ending.{log_more}
-use Rattle.db_store.proofs.HistoryLaws.{after_all, commits_fit, new_all, next_above, none_open}
+use Rattle.db_store.proofs.HistoryLaws.{after_all, commits_fit, new_all, next_above, none_open, commits_none, commits_unfit}
 use Rattle.db_store.proofs.LogLaws.{of_some}
 use Rattle.db_store.proofs.Versions.{replay_committed}
 use Rattle.db_store.specs.Log.{commits_from}
@@ -50,3 +50,27 @@ returns-in-Some c =
     (sym (ap (λ (o : Option Replayed). option_map (λ x. x.tables) o) c.in-Some.is) ∙ c.in_ok-replayed.ensures.exact)
     (of_some _ c.in_ok-replayed.field-0 r c.in-Some.is c.in_ok-replayed.ensures.handles) grown
     ∙ ap (λ (l : List ℕ). Some (let x : Commits = record { opening = c.self.inside.opening; commits = commits_from [] c.push.new.self.entries; ended = l } in x)) (sym c.make_room-2.ensures.numbers)
+
+pub invariant_of-self-in_err-make_room-2 : goal.invariant_of-self-in_err-make_room-2
+invariant_of-self-in_err-make_room-2 c = grind (arith, commits_none, commits_unfit, commits_fit, none_open, after_all, new_all)
+
+pub invariant_of-self-in_err-replayed : goal.invariant_of-self-in_err-replayed
+invariant_of-self-in_err-replayed c = grind (arith, commits_none, commits_unfit, commits_fit, none_open, after_all, new_all)
+
+pub returns-in-None : goal.returns-in-None
+returns-in-None c = grind (arith, commits_none, commits_unfit, commits_fit, none_open, after_all, new_all)
+
+pub returns-then-not-is_next : goal.returns-then-not-is_next
+returns-then-not-is_next c = grind (arith, commits_none, commits_unfit, commits_fit, none_open, after_all, new_all)
+
+pub push-requires-clause-room : goal.push-requires-clause-room
+push-requires-clause-room c = grind (arith, commits_none, commits_unfit, commits_fit, none_open, after_all, new_all)
+
+pub replay-requires-clause-fit : goal.replay-requires-clause-fit
+replay-requires-clause-fit c = grind (arith, commits_none, commits_unfit, commits_fit, none_open, after_all, new_all)
+
+pub replay-requires-clause-columns : goal.replay-requires-clause-columns
+replay-requires-clause-columns c = grind (arith, commits_none, commits_unfit, commits_fit, none_open, after_all, new_all)
+
+pub invariant_of-self-in-None : goal.invariant_of-self-in-None
+invariant_of-self-in-None c = grind (arith, commits_none, commits_unfit, commits_fit, none_open, after_all, new_all)

@@ -1,6 +1,6 @@
-use Rattle.std.proofs.Common.{◌≡◌, [], true, sym, ◌∙◌, rules}
+use Rattle.std.proofs.Common.{◌≡◌, [], true, sym, ◌∙◌, rules, arith}
 use Rattle.db_store.proofs.Ending.{end_keeps, end_room}
-use Rattle.db_store.proofs.HistoryLaws.{ends_yes}
+use Rattle.db_store.proofs.HistoryLaws.{ends_yes, ends_no}
 use Rattle.db_store.specs.Log.{commits_from}
 use Rattle.db_store.proofs.history.History.ends.Goals as goal
 
@@ -28,3 +28,6 @@ returns c =
     let can : c.can_end.result ≡ true = search rules in
     ends_yes c.args.self.now c.args.tx c.self.inside.opening (commits_from [] c.self.inside.log.entries) c.self.inside.ended.numbers c.put.new.self.numbers c.self.view_is (sym c.can_end.ensures ∙ can)
     c.put.ensures.numbers
+
+pub returns-then-not-can_end : goal.returns-then-not-can_end
+returns-then-not-can_end c = grind (arith, ends_yes, ends_no)

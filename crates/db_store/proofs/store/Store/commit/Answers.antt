@@ -1,10 +1,11 @@
-use Rattle.std.proofs.Common.{ℕ, ◌+◌, ◌-◌, ◌/◌, ◌≤◌, [], ap, min, rules, subst, sym}
+use Rattle.std.proofs.Common.{ℕ, ◌+◌, ◌-◌, ◌/◌, ◌≤◌, [], ap, min, rules, subst, sym, arith}
 use Rattle.dl_base.specs.Limits.{most_tables}
 use Rattle.db_store.proofs.Committing.{commits_committed, commits_with, handles_few, handles_new}
 use Rattle.db_store.proofs.Ending.{commit_more}
 use Rattle.db_store.proofs.Room.{room_commit, spare_commit}
 use Rattle.db_store.specs.Log.{commits_from, open_branches}
 use Rattle.db_store.specs.Store.{Database}
+use Rattle.std.proofs.lemmas.Grind.{common_steps}
 use Rattle.db_store.proofs.store.Store.commit.Goals as goal
 
 pub enter-requires-clause-new : goal.enter-requires-clause-new
@@ -50,3 +51,42 @@ invariant_of-self g c =
           c.tx-tx.result c.branch-branch.result (commits_from [] c.enter.new.log.entries) c.enter.ensures.commits c.self.invariant.3,
       room_commit was spare before after room (commit_more c.self.inside.log.entries c.enter.new.log.entries ended _ c.enter.ensures.commits),
     )
+
+pub returns-in-Ok-clause-same : goal.returns-in-Ok-clause-same
+returns-in-Ok-clause-same g c = grind (arith, common_steps)
+
+pub returns-clause-spelled : goal.returns-clause-spelled
+returns-clause-spelled g c = grind (arith, common_steps)
+
+pub returns-clause-does : goal.returns-clause-does
+returns-clause-does g c = grind (arith, common_steps)
+
+pub enter-requires-clause-all : goal.enter-requires-clause-all
+enter-requires-clause-all g c = grind (arith, common_steps)
+
+pub returns-in-Ok-clause-spelled : goal.returns-in-Ok-clause-spelled
+returns-in-Ok-clause-spelled g c = grind (arith, common_steps)
+
+pub enter-requires-clause-again : goal.enter-requires-clause-again
+enter-requires-clause-again g c = grind (arith, common_steps)
+
+pub enter-requires-clause-none : goal.enter-requires-clause-none
+enter-requires-clause-none g c = grind (arith, common_steps)
+
+pub returns-in-Ok-clause-value : goal.returns-in-Ok-clause-value
+returns-in-Ok-clause-value g c = grind (arith, common_steps)
+
+pub write-requires : goal.write-requires
+write-requires g c = grind (arith, common_steps)
+
+pub enter-requires-clause-room : goal.enter-requires-clause-room
+enter-requires-clause-room g c = grind (arith, common_steps)
+
+pub returns-in-Ok-clause-does : goal.returns-in-Ok-clause-does
+returns-in-Ok-clause-does g c = grind (arith, common_steps)
+
+pub enter-requires-clause-at : goal.enter-requires-clause-at
+enter-requires-clause-at g c = grind (arith, common_steps)
+
+pub returns-clause-err : goal.returns-clause-err
+returns-clause-err g c = grind (arith, common_steps)

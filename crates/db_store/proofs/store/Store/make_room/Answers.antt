@@ -1,4 +1,4 @@
-use Rattle.std.proofs.Common.{ℕ, ◌-◌, ◌/◌, ◌≤◌, [], List, length, ap, min, subst, sym, ◌∙◌}
+use Rattle.std.proofs.Common.{ℕ, ◌-◌, ◌/◌, ◌≤◌, [], List, length, ap, min, subst, sym, ◌∙◌, arith}
 use Rattle.dl_base.specs.Limits.{most_tables}
 use Rattle.meaning_areas.specs.Commits.{tables_after}
 use Rattle.db_store.proofs.Ending.{log_few, room_same}
@@ -6,6 +6,7 @@ use Rattle.db_store.proofs.Room.{more_room, on_ok, room_for}
 use Rattle.db_store.specs.Log.{AllCommitted, AllNew, commits_from, open_branches}
 use Rattle.db_store.specs.Store.{Database}
 use Rattle.db_store.specs.declared.log.Entry.{Entry}
+use Rattle.std.proofs.lemmas.Grind.{common_steps}
 use Rattle.db_store.proofs.store.Store.make_room.Goals as goal
 
 pub invariant_of-self : goal.invariant_of-self
@@ -35,3 +36,6 @@ returns-clause-spare c =
     (subst (λ (l : List (ℕ × Entry)). min (min c.self.inside.log.spare (c.self.inside.tables.spare / most_tables)) (c.self.inside.ended.spare - open_branches c.self.inside.ended.numbers (commits_from [] c.self.inside.log.entries)) ≤ spare (c.make_room.new.ended.spare - open_branches c.make_room.new.ended.numbers (commits_from [] l))) (sym e.log)
     (subst (λ (ms : List ℕ). min (min c.self.inside.log.spare (c.self.inside.tables.spare / most_tables)) (c.self.inside.ended.spare - open_branches c.self.inside.ended.numbers (commits_from [] c.self.inside.log.entries)) ≤ spare (c.make_room.new.ended.spare - open_branches ms (commits_from [] c.self.inside.log.entries))) (sym e.ended)
     (more_room c.self.inside.log.spare c.self.inside.tables.spare c.make_room.new.log.spare c.make_room.new.tables.spare c.self.inside.ended.spare c.make_room.new.ended.spare (open_branches c.self.inside.ended.numbers (commits_from [] c.self.inside.log.entries)) e.spare_log e.spare_tables e.spare_ended)))
+
+pub returns-clause-same : goal.returns-clause-same
+returns-clause-same c = grind (arith, common_steps)

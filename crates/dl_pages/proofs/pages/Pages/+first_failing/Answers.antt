@@ -1,4 +1,4 @@
-use Rattle.std.proofs.Common.{◌≡◌, ◌∷◌, ◌++◌, ◌-◌, ◌+◌, Option, Some, None, Bor, length, refl, sym, ◌∙◌, ap, subst, arith, length-append}
+use Rattle.std.proofs.Common.{◌≡◌, ◌∷◌, ◌++◌, ◌-◌, ◌+◌, Option, Some, None, Bor, List, length, refl, sym, ◌∙◌, ap, subst, arith, length-append}
 use Rattle.std.specs.List.{slice_get}
 use Rattle.std.specs.Option.{option_copied, unwrap_or}
 use Rattle.dl_pages.specs.Listing.{below}
@@ -50,3 +50,22 @@ returns-else-passes-clause-item g t c =
     chosen : {A : Type 0} (found : Option (Bor A)) (other : Bor A) → (unwrap_or found other).now ≡ unwrap_or (option_copied found) other.now
     chosen None other = refl
     chosen (Some x) other = refl
+
+pub returns-then-passes-clause-within : goal.returns-then-passes-clause-within
+returns-then-passes-clause-within g t c =
+    let xs = c.page.inside.before in
+    let ys = c.page.inside.behind in
+    let whole : c.args.self.now ≡ xs ++ c.page.inside.item.value ∷ ys = sym c.self.view_is ∙ ap below c.in-Some.is ∙ sym c.deref-page.ensures ∙ sym c.page.view_is in
+    let all : length c.args.self.now ≡ length (xs ++ c.page.inside.item.value ∷ ys) = ap length whole in
+    omega (arith, all, c.page.invariant.0, c.count.ensures, length-append xs (c.page.inside.item.value ∷ ys), c.first_failing-place.ensures.within)
+
+pub returns-else-passes-clause-within : goal.returns-else-passes-clause-within
+returns-else-passes-clause-within g t c =
+    let xs = c.page.inside.before in
+    let ys = c.page.inside.behind in
+    let whole : c.args.self.now ≡ xs ++ c.page.inside.item.value ∷ ys = sym c.self.view_is ∙ ap below c.in-Some.is ∙ sym c.deref-page.ensures ∙ sym c.page.view_is in
+    let all : length c.args.self.now ≡ length (xs ++ c.page.inside.item.value ∷ ys) = ap length whole in
+    omega (arith, all, length-append xs (c.page.inside.item.value ∷ ys), c.first_failing-place-else-passes.ensures.within)
+
+pub returns-in-None-clause-item : goal.returns-in-None-clause-item
+returns-in-None-clause-item g t c = ap (λ (l : List g.row.T.Denot). slice_get l 0) (sym (ap below c.in-None.is) ∙ c.self.view_is)

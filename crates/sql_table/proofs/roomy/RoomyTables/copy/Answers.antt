@@ -1,6 +1,7 @@
-use Rattle.std.proofs.Common.{◌+◌, ◌++◌, drop, sym, ap, ◌∙◌}
+use Rattle.std.proofs.Common.{◌+◌, ◌++◌, drop, sym, ap, ◌∙◌, arith}
 use Rattle.sql_table.proofs.Left.{nothing_more}
 use Rattle.sql_table.proofs.Names.{insert_next}
+use Rattle.std.proofs.lemmas.Grind.{common_steps}
 use Rattle.sql_table.proofs.roomy.RoomyTables.copy.Goals as goal
 use Rattle.sql_table.proofs.roomy.RoomyTables.copy.Goals.{in-Some+in_ok-put_copy-in-Some, in-None}
 
@@ -16,3 +17,6 @@ loop-i-preserved c =
           ap (λ m. m.entries ++ rest) w.entries-is
           ∙ ap (λ es. c.loop-i.entries.entries ++ es) (nothing_more c.args.self.now.tables c.loop-i.i w.in-None.ensures.left ∙ sym w.in-None.ensures.left) ∙ c.loop-i.invariant
     ]
+
+pub returns : goal.returns
+returns c = grind (arith, common_steps)
