@@ -6,8 +6,10 @@ use Rattle.dl_base.specs.declared.statement.Op.{Op}
 use Rattle.dl_base.specs.declared.statement.Op.TheVariants as ops
 use Rattle.meaning_sql.specs.Faults.{◌>>=◌}
 use Rattle.meaning_sql.specs.Operators.{binary}
+use Rattle.sql_expr.specs.Seeing.{seen}
 use Rattle.sql_expr.specs.declared.operator.Ask.{Ask}
 use Rattle.sql_expr.specs.declared.operator.Ask.TheVariants as asks
+use Rattle.sql_expr.specs.declared.seen.Seen.{Seen}
 
 abbrev pub is_arithmetic : Op → Bool
 is_arithmetic ops.Add = true
@@ -29,7 +31,7 @@ Decided op x None = (r : Result Value SqlFault) → binary op x r ≡ (r >>= λ 
 Decided op x (Some v) = (r : Result Value SqlFault) → binary op x r ≡ Ok v
 
 -- the left side is refused or decides, or it is x and the right side is asked
-abbrev pub Asked : Op → Result Value SqlFault → Ask → Type 0
+abbrev pub Asked : Op → Result Seen SqlFault → Ask → Type 0
 Asked op left (asks.Refused e) = left ≡ Err e
-Asked op left (asks.Decided v) = (x : Value) × (left ≡ Ok x) × ((right : Result Value SqlFault) → binary op x right ≡ Ok v)
-Asked op left (asks.Asks x) = (left ≡ Ok x) × ((right : Result Value SqlFault) → binary op x right ≡ (right >>= λ y. binary op x (Ok y)))
+Asked op left (asks.Decided v) = (x : Seen) × (left ≡ Ok x) × ((right : Result Value SqlFault) → binary op (seen x) right ≡ Ok v)
+Asked op left (asks.Asks x) = (left ≡ Ok x) × ((right : Result Value SqlFault) → binary op (seen x) right ≡ (right >>= λ y. binary op (seen x) (Ok y)))

@@ -1,3 +1,6 @@
 pub mod Asking
+pub mod Binding
 pub mod Numbers
 pub mod Operands
+pub mod Seeing
+pub mod Trees

@@ -3,8 +3,8 @@ ghost use Rattle.std.specs.Prelude.{◌≡◌};
 ghost use Rattle.meaning_sql.specs.Faults.{Computes, try_map, option_list};
 ghost use Rattle.meaning_sql.specs.Conditions as meant;
 
+use crate::bound::Bound;
 use crate::checking::check_in;
-use crate::evaluation::value;
 use crate::types::is_truth;
 use dl_base::{Expr, Row, SqlFault, Value};
 use meaning_sql::{AggregateScope, Columns, Context, SqlType};
@@ -43,7 +43,8 @@ pub fn holds(
 ) -> Result<bool, SqlFault>
     ensures { Computes (λ b. b) result (meant.holds_one columns.now context.entry.now condition.now row.now) }
 {
-    Ok(is_true(&value(alloc, condition, row, columns, context)?))
+    let bound = Bound::new(alloc, condition, columns)?;
+    bound.holds(alloc, row, context)
 }
 
 /// Whether the condition of WHERE, where there is one, is true of a row.
@@ -64,7 +65,7 @@ pub fn filter_holds(
 }
 
 #[tactic(auto, unfolding(meaning_sql::specs::Operators::truth_of))]
-fn is_true(x: &Value) -> bool
+pub(crate) fn is_true(x: &Value) -> bool
     ensures { result ≡ meant.is_true x.now }
 {
     match x {

@@ -1,51 +1,23 @@
-// The value of an expression.
+// The value of a tree at a row. Cells and constants are looked at where they stand.
 ghost use Rattle.std.specs.Prelude.{◌≡◌, ◌<◌, ◌^◌, [], length, map, not, pos, IfOk, Ok, Option, if◌then◌else◌};
-ghost use Rattle.dl_base.specs.declared.column.Options.{Options};
-ghost use Rattle.meaning_sql.specs.Columns as columns_meant;
+ghost use Rattle.meaning_sql.specs.Conditions as conditions_meant;
 ghost use Rattle.meaning_sql.specs.Datalinks as links_meant;
-ghost use Rattle.meaning_sql.specs.Faults.{Follows, Computes, and_then};
+ghost use Rattle.meaning_sql.specs.Faults.{Computes, and_then};
 ghost use Rattle.meaning_sql.specs.Operators as meant;
-ghost use Rattle.meaning_sql.specs.Values.{cell, meaning, denotation};
+ghost use Rattle.meaning_sql.specs.Values.{cell};
+ghost use Rattle.sql_expr.specs.Seeing.{FollowsSeen, GathersSeen, IsTold, seen};
+ghost use Rattle.sql_expr.specs.Trees.{said, said_value};
 
 use crate::aggregate::gather;
-use crate::columns::{kind_at, options_of, place_of};
+use crate::condition::is_true;
 use crate::datalinks::{accessed, datalink};
 use crate::operator::{Ask, binary, left_side, negated};
+use crate::seen::{Seen, cell_at, made};
+use crate::tree::Tree;
 use crate::truth::{is_null, not3, of_truth, truth_of};
-use dl_base::{
-    Copied, Expr, Fold, List, Memory, Op, Options, Part, Ref, Row, SqlFault, Text, Value,
-};
-use meaning_sql::{Columns, Context};
+use dl_base::{Copied, Fold, Memory, Op, Options, Part, Row, SqlFault, Value};
+use meaning_sql::Context;
 use std::alloc::Global;
-
-/// The value of an expression at a row of these columns; aggregates are over no rows. A truth is 1 or 0, and unknown is NULL.
-/// The first refusal from left to right is the answer. Where `check` gave a type, it is `Overflow`, `ZeroDivide`, `BadLink` or
-/// `Memory`; else also `NoColumn` or `Ambiguous`, and a value of another type than an operator takes counts as NULL.
-pub fn value(
-    alloc: Global,
-    expr: &Expr,
-    row: &Row,
-    columns: &Columns,
-    context: &Context,
-) -> Result<Value, SqlFault>
-    ensures { Computes (λ v. v) result (meaning columns.now context.entry.now [] expr.now row.now) }
-{
-    value_over(alloc, expr, row, columns, context, &[])
-}
-
-/// The value of an expression at a row, as `value`, its aggregates being over a group of rows of the same columns.
-pub fn evaluate(
-    alloc: Global,
-    expr: &Expr,
-    row: &Row,
-    columns: &Columns,
-    context: &Context,
-    group: &List<Row>,
-) -> Result<Value, SqlFault>
-    ensures { Computes (λ v. v) result (meaning columns.now context.entry.now group.now expr.now row.now) }
-{
-    value_over(alloc, expr, row, columns, context, group.as_slice())
-}
 
 /// The value at a place from 0 of a row; NULL past its end.
 #[tactic(auto, unfolding(meaning_sql::specs::Values::cell))]
@@ -58,159 +30,208 @@ pub fn cell(row: &Row, place: usize) -> Result<Value, Memory>
     }
 }
 
-#[tactic(auto, unfolding(meaning_sql::specs::Operators::gathered))]
-fn value_over(
+/// The value of a tree at a row, to be kept; aggregates are over a group of rows.
+pub(crate) fn tree_value(
     alloc: Global,
-    expr: &Expr,
+    tree: &Tree,
     row: &Row,
-    columns: &Columns,
     context: &Context,
     group: &[Row],
 ) -> Result<Value, SqlFault>
-    ensures { Computes (λ v. v) result (meaning columns.now context.entry.now group.now expr.now row.now) }
+    ensures { Computes (λ v. v) result (said_value context.entry.now group.now tree.now row.now) }
 {
-    match expr {
-        Expr::Number(z) => Ok(Value::Int(*z)),
-        Expr::Literal(text) => literal(text),
-        Expr::Null => Ok(Value::Null),
-        Expr::Column(column) => column_value(row, columns, column),
-        Expr::Not(inner) => negation(value_over(alloc, inner.get(), row, columns, context, group)),
-        Expr::Minus(inner) => opposite_of(value_over(
-            alloc,
-            inner.get(),
-            row,
-            columns,
-            context,
-            group,
-        )),
-        Expr::Binary(op, left, right) => {
-            match left_side(
-                *op,
-                value_over(alloc, left.get(), row, columns, context, group),
-            ) {
+    match value_over(alloc, tree, row, context, group) {
+        Ok(value) => Ok(value.into_value()?),
+        Err(fault) => Err(fault),
+    }
+}
+
+/// Whether the value of a tree at a row is true.
+pub(crate) fn tree_holds(
+    alloc: Global,
+    tree: &Tree,
+    row: &Row,
+    context: &Context,
+) -> Result<bool, SqlFault>
+    ensures { Computes (λ b. b) result (and_then (said_value context.entry.now [] tree.now row.now) (λ v. Ok (conditions_meant.is_true v))) }
+{
+    match value_over(alloc, tree, row, context, &[]) {
+        Ok(value) => {
+            let holds = is_true(value.get());
+            drop(value);
+            Ok(holds)
+        }
+        Err(fault) => Err(fault),
+    }
+}
+
+#[tactic(auto, unfolding(meaning_sql::specs::Operators::gathered))]
+fn value_over<'a>(
+    alloc: Global,
+    tree: &'a Tree,
+    row: &'a Row,
+    context: &Context,
+    group: &'a [Row],
+) -> Result<Seen<'a>, SqlFault>
+    ensures { Computes seen result (said_value context.entry.now group.now tree.now row.now) }
+{
+    match tree {
+        Tree::Constant(value) => Ok(Seen::There(value)),
+        Tree::Cell(place, _) => Ok(cell_at(row, *place)),
+        Tree::Nameless(fault) => Err(refused(fault)),
+        Tree::Not(inner) => negation(value_over(alloc, inner.get(), row, context, group)),
+        Tree::Minus(inner) => opposite_of(value_over(alloc, inner.get(), row, context, group)),
+        Tree::Binary(op, left, right) => {
+            match left_side(*op, value_over(alloc, left.get(), row, context, group)) {
                 Ask::Refused(fault) => Err(fault),
-                Ask::Decided(v) => Ok(v),
-                Ask::Asks(x) => after(
-                    *op,
-                    x,
-                    value_over(alloc, right.get(), row, columns, context, group),
-                ),
+                Ask::Decided(v) => Ok(Seen::Made(v)),
+                Ask::Asks(x) => after(*op, x, value_over(alloc, right.get(), row, context, group)),
             }
         }
-        Expr::IsNull(inner, is) => nullness(
-            value_over(alloc, inner.get(), row, columns, context, group),
-            *is,
-        ),
-        Expr::CountAll => Ok(Value::Int(count(group))),
-        Expr::Aggregate(fold, inner) => {
+        Tree::IsNull(inner, is) => {
+            nullness(value_over(alloc, inner.get(), row, context, group), *is)
+        }
+        Tree::CountAll => Ok(Seen::Made(Value::Int(count(group)))),
+        Tree::Aggregate(fold, inner) => {
             let mut so_far = Value::Null;
             'rows: for one in group {
                 match next_of(
                     *fold,
                     so_far,
-                    value_over(alloc, inner.get(), one, columns, context, group),
+                    value_over(alloc, inner.get(), one, context, group),
                 ) {
                     Err(fault) => return Err(fault),
                     Ok(more) => so_far = more,
                 }
             }
-            Ok(so_far)
+            Ok(Seen::Made(so_far))
         }
-        Expr::Dlvalue1(location) => {
+        Tree::Dlvalue1(location) => {
             linked1(
                 alloc,
                 context,
-                value_over(alloc, location.get(), row, columns, context, group),
+                value_over(alloc, location.get(), row, context, group),
             )
         }
-        Expr::Dlvalue2(location, linktype) => {
-            match value_over(alloc, location.get(), row, columns, context, group) {
+        Tree::Dlvalue2(location, linktype) => {
+            match value_over(alloc, location.get(), row, context, group) {
                 Err(fault) => Err(fault),
                 Ok(x) => {
-                    let y = value_over(alloc, linktype.get(), row, columns, context, group);
+                    let y = value_over(alloc, linktype.get(), row, context, group);
                     linked2(alloc, context, x, y)
                 }
             }
         }
-        Expr::Dlvalue3(location, linktype, comment) => {
-            match value_over(alloc, location.get(), row, columns, context, group) {
+        Tree::Dlvalue3(location, linktype, comment) => {
+            match value_over(alloc, location.get(), row, context, group) {
                 Err(fault) => Err(fault),
-                Ok(x) => match value_over(alloc, linktype.get(), row, columns, context, group) {
+                Ok(x) => match value_over(alloc, linktype.get(), row, context, group) {
                     Err(fault) => Err(fault),
                     Ok(y) => {
-                        let z = value_over(alloc, comment.get(), row, columns, context, group);
+                        let z = value_over(alloc, comment.get(), row, context, group);
                         linked3(alloc, context, x, y, z)
                     }
                 },
             }
         }
-        Expr::Access(part, inner) => {
-            match value_over(alloc, inner.get(), row, columns, context, group) {
-                Err(fault) => Err(fault),
-                Ok(x) => part_of(alloc, context, x, under(inner.get(), columns), *part),
-            }
-        }
+        Tree::Access(part, inner) => match value_over(alloc, inner.get(), row, context, group) {
+            Err(fault) => Err(fault),
+            Ok(x) => part_of(alloc, context, x, under(inner.get()), *part),
+        },
+    }
+}
+
+// A fault as it stands in a tree.
+fn refused(fault: &SqlFault) -> SqlFault
+    ensures { IsTold fault.now result }
+{
+    match fault {
+        SqlFault::NoTable(name) => match name.copy() {
+            Ok(name) => SqlFault::NoTable(name),
+            Err(_) => SqlFault::Memory,
+        },
+        SqlFault::TableExists(name) => match name.copy() {
+            Ok(name) => SqlFault::TableExists(name),
+            Err(_) => SqlFault::Memory,
+        },
+        SqlFault::NoColumn(name) => match name.copy() {
+            Ok(name) => SqlFault::NoColumn(name),
+            Err(_) => SqlFault::Memory,
+        },
+        SqlFault::Ambiguous(name) => match name.copy() {
+            Ok(name) => SqlFault::Ambiguous(name),
+            Err(_) => SqlFault::Memory,
+        },
+        SqlFault::NullKey(name) => match name.copy() {
+            Ok(name) => SqlFault::NullKey(name),
+            Err(_) => SqlFault::Memory,
+        },
+        SqlFault::TooLong(name) => match name.copy() {
+            Ok(name) => SqlFault::TooLong(name),
+            Err(_) => SqlFault::Memory,
+        },
+        SqlFault::TypeFault => SqlFault::TypeFault,
+        SqlFault::Arity => SqlFault::Arity,
+        SqlFault::DupKey(number) => SqlFault::DupKey(*number),
+        SqlFault::Overflow => SqlFault::Overflow,
+        SqlFault::ZeroDivide => SqlFault::ZeroDivide,
+        SqlFault::BadLink(why) => SqlFault::BadLink(*why),
+        SqlFault::BadOptions => SqlFault::BadOptions,
+        SqlFault::Limit(limit) => SqlFault::Limit(*limit),
+        SqlFault::Memory => SqlFault::Memory,
     }
 }
 
 // What an operand gave is handed on whole, a refusal too: each of these takes the step of one operator on it.
 
-fn literal(text: &Text) -> Result<Value, SqlFault>
-    ensures { Computes (λ v. v) result (Ok (Value.Text text.now)) }
-{
-    Ok(Value::Text(text.copy()?))
-}
-
-fn column_value(row: &Row, columns: &Columns, column: &Ref) -> Result<Value, SqlFault>
-    ensures { Computes (λ v. v) result (and_then (columns_meant.place_of columns.now column.now) (λ i. Ok (cell row.now i))) }
-{
-    let place = place_of(columns, column)?;
-    Ok(cell(row, place)?)
-}
-
-fn negation(x: Result<Value, SqlFault>) -> Result<Value, SqlFault>
-    ensures { Follows x (λ v. Ok (meant.of_truth (meant.not3 (meant.truth_of v)))) result }
-{
-    let x = x?;
-    let truth = not3(truth_of(&x));
-    drop(x);
-    Ok(of_truth(truth))
-}
-
-fn opposite_of(x: Result<Value, SqlFault>) -> Result<Value, SqlFault>
-    ensures { Follows x meant.negated result }
+fn negation<'a>(x: Result<Seen<'a>, SqlFault>) -> Result<Seen<'a>, SqlFault>
+    ensures { FollowsSeen x.entry (λ v. Ok (meant.of_truth (meant.not3 (meant.truth_of v)))) result }
 {
     match x {
         Ok(x) => {
-            let made = negated(&x);
+            let truth = not3(truth_of(x.get()));
             drop(x);
-            made
+            Ok(Seen::Made(of_truth(truth)))
         }
         Err(fault) => Err(fault),
     }
 }
 
-fn nullness(x: Result<Value, SqlFault>, is: bool) -> Result<Value, SqlFault>
-    ensures { Follows x (λ v. Ok (meant.of_truth (Option.Some (if is then meant.is_null v else not (meant.is_null v))))) result }
+fn opposite_of<'a>(x: Result<Seen<'a>, SqlFault>) -> Result<Seen<'a>, SqlFault>
+    ensures { FollowsSeen x.entry meant.negated result }
 {
     match x {
         Ok(x) => {
-            let null = is_null(&x);
-            Ok(of_truth(Some(if is { null } else { !null })))
+            let opposite = negated(x.get());
+            drop(x);
+            made(opposite)
         }
         Err(fault) => Err(fault),
     }
 }
 
-fn after(op: Op, x: Value, y: Result<Value, SqlFault>) -> Result<Value, SqlFault>
-    ensures { Follows y (λ b. meant.binary op x (Ok b)) result }
+fn nullness<'a>(x: Result<Seen<'a>, SqlFault>, is: bool) -> Result<Seen<'a>, SqlFault>
+    ensures { FollowsSeen x.entry (λ v. Ok (meant.of_truth (Option.Some (if is then meant.is_null v else not (meant.is_null v))))) result }
+{
+    match x {
+        Ok(x) => {
+            let null = is_null(x.get());
+            drop(x);
+            Ok(Seen::Made(of_truth(Some(if is { null } else { !null }))))
+        }
+        Err(fault) => Err(fault),
+    }
+}
+
+fn after<'a>(op: Op, x: Seen<'a>, y: Result<Seen<'a>, SqlFault>) -> Result<Seen<'a>, SqlFault>
+    ensures { FollowsSeen y.entry (λ b. meant.binary op (seen x.entry) (Ok b)) result }
 {
     match y {
         Ok(y) => {
-            let made = binary(op, &x, &y);
+            let value = binary(op, x.get(), y.get());
             drop(x);
             drop(y);
-            made
+            made(value)
         }
         Err(fault) => {
             drop(x);
@@ -226,11 +247,17 @@ fn count(group: &[Row]) -> i64
     group.len() as i64
 }
 
-fn next_of(fold: Fold, x: Value, y: Result<Value, SqlFault>) -> Result<Value, SqlFault>
-    ensures { Follows y (meant.gather fold x) result }
+fn next_of(fold: Fold, x: Value, y: Result<Seen, SqlFault>) -> Result<Value, SqlFault>
+    ensures { GathersSeen y.entry (meant.gather fold x) result }
 {
     match y {
-        Ok(y) => gather(fold, x, y),
+        Ok(y) => match y.into_value() {
+            Ok(y) => gather(fold, x, y),
+            Err(_) => {
+                drop(x);
+                Err(SqlFault::Memory)
+            }
+        },
         Err(fault) => {
             drop(x);
             Err(fault)
@@ -238,33 +265,37 @@ fn next_of(fold: Fold, x: Value, y: Result<Value, SqlFault>) -> Result<Value, Sq
     }
 }
 
-fn linked1(alloc: Global, context: &Context, x: Result<Value, SqlFault>) -> Result<Value, SqlFault>
-    ensures { Follows x (λ a. links_meant.datalink context.entry.now.server a Value.Null Value.Null) result }
+fn linked1<'a>(
+    alloc: Global,
+    context: &Context,
+    x: Result<Seen<'a>, SqlFault>,
+) -> Result<Seen<'a>, SqlFault>
+    ensures { FollowsSeen x.entry (λ a. links_meant.datalink context.entry.now.server a Value.Null Value.Null) result }
 {
     match x {
         Ok(x) => {
-            let made = datalink(alloc, &context.server, &x, &Value::Null, &Value::Null);
+            let link = datalink(alloc, &context.server, x.get(), &Value::Null, &Value::Null);
             drop(x);
-            made
+            made(link)
         }
         Err(fault) => Err(fault),
     }
 }
 
-fn linked2(
+fn linked2<'a>(
     alloc: Global,
     context: &Context,
-    x: Value,
-    y: Result<Value, SqlFault>,
-) -> Result<Value, SqlFault>
-    ensures { Follows y (λ b. links_meant.datalink context.entry.now.server x b Value.Null) result }
+    x: Seen<'a>,
+    y: Result<Seen<'a>, SqlFault>,
+) -> Result<Seen<'a>, SqlFault>
+    ensures { FollowsSeen y.entry (λ b. links_meant.datalink context.entry.now.server (seen x.entry) b Value.Null) result }
 {
     match y {
         Ok(y) => {
-            let made = datalink(alloc, &context.server, &x, &y, &Value::Null);
+            let link = datalink(alloc, &context.server, x.get(), y.get(), &Value::Null);
             drop(x);
             drop(y);
-            made
+            made(link)
         }
         Err(fault) => {
             drop(x);
@@ -273,22 +304,22 @@ fn linked2(
     }
 }
 
-fn linked3(
+fn linked3<'a>(
     alloc: Global,
     context: &Context,
-    x: Value,
-    y: Value,
-    z: Result<Value, SqlFault>,
-) -> Result<Value, SqlFault>
-    ensures { Follows z (links_meant.datalink context.entry.now.server x y) result }
+    x: Seen<'a>,
+    y: Seen<'a>,
+    z: Result<Seen<'a>, SqlFault>,
+) -> Result<Seen<'a>, SqlFault>
+    ensures { FollowsSeen z.entry (links_meant.datalink context.entry.now.server (seen x.entry) (seen y.entry)) result }
 {
     match z {
         Ok(z) => {
-            let made = datalink(alloc, &context.server, &x, &y, &z);
+            let link = datalink(alloc, &context.server, x.get(), y.get(), z.get());
             drop(x);
             drop(y);
             drop(z);
-            made
+            made(link)
         }
         Err(fault) => {
             drop(x);
@@ -298,39 +329,37 @@ fn linked3(
     }
 }
 
-fn part_of(
+fn part_of<'a>(
     alloc: Global,
     context: &Context,
-    x: Value,
-    options: Result<Option<Options>, SqlFault>,
+    x: Seen<'a>,
+    options: Option<Options>,
     part: Part,
-) -> Result<Value, SqlFault>
-    ensures { (under : Option Options) → Computes (λ v. v) options (Ok under) → Computes (λ v. v) result (Ok (links_meant.accessed context.entry.now under part x)) }
+) -> Result<Seen<'a>, SqlFault>
+    ensures { Computes seen result (Ok (links_meant.accessed context.entry.now options part (seen x.entry))) }
 {
-    match options {
-        Ok(under) => {
-            let made = accessed(alloc, context, under, part, &x);
-            drop(x);
-            made
-        }
-        Err(fault) => {
-            drop(x);
-            Err(fault)
-        }
-    }
+    let text = accessed(alloc, context, options, part, x.get());
+    drop(x);
+    made(text)
 }
 
-// The options of the column that an expression is, if it is one under link control.
-#[tactic(auto, unfolding(meaning_sql::specs::Columns::options_at))]
-fn under(expr: &Expr, columns: &Columns) -> Result<Option<Options>, SqlFault>
-    ensures { (context : _) (group : _) → Computes (λ u. u) result (Ok (denotation columns.now context group expr.now).under) }
+// The options of the column that a tree is, if it is one under link control.
+fn under(tree: &Tree) -> Option<Options>
+    ensures { (context : _) (group : _) → result ≡ (said context group tree.now).under }
 {
-    match expr {
-        Expr::Column(column) => match place_of(columns, column) {
-            Ok(place) => Ok(options_of(kind_at(columns, place))),
-            Err(SqlFault::Memory) => Err(SqlFault::Memory),
-            Err(_) => Ok(None),
-        },
-        _ => Ok(None),
+    match tree {
+        Tree::Cell(_, options) => *options,
+        Tree::Constant(_) => None,
+        Tree::Nameless(_) => None,
+        Tree::Not(_) => None,
+        Tree::Minus(_) => None,
+        Tree::Binary(_, _, _) => None,
+        Tree::IsNull(_, _) => None,
+        Tree::CountAll => None,
+        Tree::Aggregate(_, _) => None,
+        Tree::Dlvalue1(_) => None,
+        Tree::Dlvalue2(_, _) => None,
+        Tree::Dlvalue3(_, _, _) => None,
+        Tree::Access(_, _) => None,
     }
 }

@@ -2,22 +2,28 @@
 #![tactic(auto)]
 
 mod aggregate;
+mod bound;
 mod checking;
 mod columns;
 mod condition;
 mod datalinks;
 mod evaluation;
+mod filter;
 mod laws;
 mod number;
 mod operator;
+mod seen;
+mod tree;
 mod truth;
 mod types;
 
 pub use aggregate::gather;
+pub use bound::{Bound, evaluate, value};
 pub use checking::{check, check_in};
 pub use columns::place_of;
 pub use condition::{condition_type, filter_holds, filter_type, holds};
-pub use evaluation::{cell, evaluate, value};
+pub use evaluation::cell;
+pub use filter::Filter;
 pub use laws::values_are_of_the_type;
 pub use meaning_sql::{AggregateScope, Columns, Context, SqlType};
 pub use types::kind_type;

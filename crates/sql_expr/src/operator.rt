@@ -4,28 +4,29 @@ ghost use Rattle.meaning_sql.specs.Operators as meaning;
 ghost use Rattle.sql_expr.specs.Asking.{Asked, Decided, is_arithmetic};
 
 use crate::number::{difference, opposite, product, quotient, sum};
+use crate::seen::Seen;
 use crate::truth::{and3, of_truth, or3, truth_of};
 use dl_base::{Op, SqlFault, Value};
 use std::cmp::Ordering;
 
 /// What is known of an operator once its left side is.
 #[derive(Drop)]
-pub enum Ask {
+pub enum Ask<'a> {
     /// The left side was refused so.
     Refused(SqlFault),
     /// The operator's value, whatever the right side is.
     Decided(Value),
     /// The value of the left side: the right side is needed.
-    Asks(Value),
+    Asks(Seen<'a>),
 }
 
 #[tactic(auto, unfolding(meaning_sql::specs::Operators::binary))]
-pub(crate) fn left_side(op: Op, x: Result<Value, SqlFault>) -> Ask
-    ensures { Asked op x result }
+pub(crate) fn left_side<'a>(op: Op, x: Result<Seen<'a>, SqlFault>) -> Ask<'a>
+    ensures { Asked op x.entry result }
 {
     match x {
         Err(fault) => Ask::Refused(fault),
-        Ok(x) => match decided(op, &x) {
+        Ok(x) => match decided(op, x.get()) {
             Some(v) => Ask::Decided(v),
             None => Ask::Asks(x),
         },

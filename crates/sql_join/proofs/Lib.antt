@@ -4,3 +4,4 @@ pub mod Early
 pub mod Passed
 pub mod Keeping
 pub mod Apart
+pub mod Folding

@@ -5,3 +5,4 @@ pub mod Keys
 pub mod Grouping
 pub mod Keeping
 pub mod Walking
+pub mod Folding

@@ -1,3 +1,4 @@
+pub mod Bound
 pub mod Fitting
 pub mod Folds
 pub mod Orders

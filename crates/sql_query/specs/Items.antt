@@ -19,6 +19,7 @@ use Rattle.meaning_sql.specs.Faults.{◌>>=◌, typed, try_map, option_list}
 use Rattle.meaning_sql.specs.Types.{type_of, is_cell, kind_type}
 use Rattle.meaning_sql.specs.Values.{meaning, cell}
 use Rattle.meaning_statements.specs.Selecting.{is_ungrouped, column_names, row_of_cells, is_key}
+use Rattle.sql_expr.specs.Binding.{Bound, bound_value}
 
 abbrev pub star_type : AggregateScope → List ℕ × Column → Result SqlType SqlFault
 star_type s c = typed (is_ungrouped s) (kind_type c.1.kind)
@@ -40,6 +41,13 @@ item_at columns context group row item = meaning columns context group item.expr
 
 abbrev pub listed_row : Columns → Context → List Item → List Row → Row → Result Row SqlFault
 listed_row columns context items group row = try_map (item_at columns context group row) items >>= λ cells. Ok (row_of_cells cells)
+
+abbrev pub star_row : Columns → Row → Result Row SqlFault
+star_row columns row = Ok (row_of_cells (cells_from row 0 columns))
+
+-- the same of items whose columns have places; their aggregates are over no rows
+abbrev pub bound_row : Context → List Bound → Row → Result Row SqlFault
+bound_row context bound row = try_map (bound_value context row) bound >>= λ cells. Ok (row_of_cells cells)
 
 abbrev pub answer_of : Columns → Context → Option (List Item) → List Row → Row → Result Row SqlFault
 answer_of columns context None group row = Ok (row_of_cells (cells_from row 0 columns))

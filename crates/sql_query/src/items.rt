@@ -1,15 +1,16 @@
 // What a query shows: the columns in order, or its items.
-ghost use Rattle.std.specs.Prelude.{◌≡◌, ◌++◌, IfOk, Ok, bytes_eq, length};
+ghost use Rattle.std.specs.Prelude.{◌≡◌, ◌++◌, IfOk, Ok, bytes_eq, length, map};
 ghost use Rattle.std.specs.List.{list_any};
 ghost use Rattle.meaning_sql.specs.Columns.{only_one};
 ghost use Rattle.meaning_sql.specs.Faults.{Computes, typed, try_map, option_list};
 ghost use Rattle.meaning_sql.specs.Types as types_meant;
 ghost use Rattle.meaning_statements.specs.Selecting as meant;
+ghost use Rattle.sql_expr.specs.Binding.{bound_in};
 ghost use Rattle.sql_query.specs.Items as shown;
 
 use dl_base::{Column, Expr, Item, List, Memory, Name, Row, SqlFault, Value};
 use meaning_sql::{AggregateScope, Columns, Context, SqlType};
-use sql_expr::{cell, check_in, evaluate, kind_type};
+use sql_expr::{Bound, cell, check_in, evaluate, kind_type};
 use std::alloc::Global;
 
 /// The types of what is shown, or the first breach.
@@ -100,12 +101,44 @@ pub(crate) fn answer(
     }
 }
 
-fn star_cells(alloc: Global, columns: &Columns, row: &Row) -> Result<Row, Memory>
+/// The cells of a row, one a column.
+pub(crate) fn star_cells(alloc: Global, columns: &Columns, row: &Row) -> Result<Row, Memory>
     ensures { IfOk result (λ made. made ≡ meant.row_of_cells (shown.cells_from row.now 0 columns.now)) }
 {
     let mut values = List::empty(alloc);
     for (i, _c) in columns.as_slice().iter().enumerate() {
         values.push(cell(row, i)?)?;
+    }
+    Ok(Row { values })
+}
+
+/// The expressions of items with the places of their columns.
+pub(crate) fn bound_items<'a>(
+    alloc: Global,
+    items: &'a [Item],
+    columns: &'a Columns,
+) -> Result<List<Bound<'a>>, Memory>
+    ensures { IfOk result (λ made. made ≡ map (λ i. bound_in columns.now i.expr) items.now) }
+{
+    let mut made = List::empty(alloc);
+    for item in items {
+        made.push(Bound::new(alloc, &item.expr, columns)?)?;
+    }
+    Ok(made)
+}
+
+/// What is shown of a row by items without aggregates.
+pub(crate) fn bound_cells(
+    alloc: Global,
+    bound: &[Bound],
+    context: &Context,
+    row: &Row,
+) -> Result<Row, SqlFault>
+    ensures { Computes (λ r. r) result (shown.bound_row context.entry.now bound.now row.now) }
+{
+    let mut values = List::empty(alloc);
+    for one in bound {
+        values.push(one.value(alloc, row, context)?)?;
     }
     Ok(Row { values })
 }

@@ -2,6 +2,8 @@ pub mod Alone
 pub mod Beside
 pub mod Leaving
 pub mod Placing
+pub mod Rights
 pub mod Rising
+pub mod Turns
 pub mod Updating
 pub mod Wide

@@ -2,11 +2,13 @@
 ghost use Rattle.std.specs.Prelude.{◌≡◌, ◌≤◌, ◌+◌, ◌∷◌, All, IfErr, IfOk, Ok, [], is_some, length, map, suc, true};
 ghost use Rattle.dl_base.specs.Limits.{link_numbers};
 ghost use Rattle.dl_base.specs.declared.sql_fault.SqlFault.TheVariants as faults;
+ghost use Rattle.meaning_sql.specs.Columns.{Columns as ColumnsOf};
 ghost use Rattle.meaning_sql.specs.Faults.{Computes, try_map, option_list};
 ghost use Rattle.meaning_sql.specs.Values.{meaning};
 ghost use Rattle.meaning_statements.specs.Changing as meant;
 ghost use Rattle.meaning_tables.specs.Fits.{table_fits};
 ghost use Rattle.meaning_tables.specs.Tables.{Rise, row_of, with_row, without_row};
+ghost use Rattle.sql_expr.specs.Binding.{AreIn, bound_in, bound_value};
 ghost use Rattle.sql_keys.specs.Finding.{IsUnmet, PassesOver};
 ghost use Rattle.sql_keys.specs.declared.finding.KeyRows.TheVariants as key_rows;
 ghost use Rattle.sql_rows.specs.Beside.{RowsAgreeBeside};
@@ -15,7 +17,7 @@ ghost use Rattle.sql_rows.specs.Touching.{Touches};
 
 use crate::cells::{PutRow, stored_row};
 use dl_base::{Column, Copied, Expr, List, Memory, Name, Row, SqlFault, Value};
-use sql_expr::{Columns, Context, cell, filter_holds, value};
+use sql_expr::{Bound, Columns, Context, Filter, cell, filter_holds, value};
 use sql_keys::{KeyRows, rows_asked};
 use sql_table::Table;
 use std::alloc::Global;
@@ -185,13 +187,29 @@ fn delete_each(
     ensures beside { IfOk result (λ d. RowsAgreeBeside d.removed table.now.rows d.table.rows) }
     ensures told { IfOk result (λ d. length d.table.rows + length d.removed ≡ length table.now.rows) }
 {
+    let bound = Filter::new(alloc, filter, columns)?;
+    delete_met(alloc, table, context, &bound)
+}
+
+// The same, the columns of the condition having places.
+fn delete_met(
+    alloc: Global,
+    table: &Table,
+    context: &Context,
+    filter: &Filter,
+) -> Result<Deleted, SqlFault>
+    ensures rows { Computes (λ d. d.table.rows) result (meant.remaining filter.now.columns context.entry.now (option_list filter.now.condition) table.now.rows) }
+    ensures others { IfOk result (λ d. d.table ≡ record table.now { rows = d.table.rows }) }
+    ensures beside { IfOk result (λ d. RowsAgreeBeside d.removed table.now.rows d.table.rows) }
+    ensures told { IfOk result (λ d. length d.table.rows + length d.removed ≡ length table.now.rows) }
+{
     let mut left = table.copy()?;
     let mut removed = List::empty(alloc);
     for i in 0..table.len() {
         match table.at(i) {
             Some((number, row)) => {
-                let is_met = filter_holds(alloc, filter, row, columns, context)?;
-                if !is_met {
+                let goes = filter.holds(alloc, row, context)?;
+                if !goes {
                     continue;
                 }
                 removed.push(number)?;
@@ -280,21 +298,47 @@ fn numbered(table: &Table)
     let _ = table.len();
 }
 
-// The values that an UPDATE sets, in order.
-fn set_values(
+// The right sides of an UPDATE, in order, with the places of their columns.
+fn bound_sets<'a>(
     alloc: Global,
-    sets: &List<(Name, Expr)>,
+    sets: &'a List<(Name, Expr)>,
+    all: &'a Columns,
+) -> Result<List<Bound<'a>>, Memory>
+    ensures { IfOk result (λ made. made ≡ map (λ s. bound_in all.now s.1) sets.now) }
+{
+    let mut rights = List::empty(alloc);
+    for set in sets.as_slice() {
+        rights.push(Bound::new(alloc, &set.1, all)?)?;
+    }
+    Ok(rights)
+}
+
+// The values of right sides at a row, each in its own columns.
+fn bound_values(
+    alloc: Global,
+    rights: &[Bound],
     row: &Row,
-    columns: &Columns,
     context: &Context,
 ) -> Result<List<Value>, SqlFault>
-    ensures { Computes (λ v. v) result (try_map (λ e. meaning columns.now context.entry.now [] e row.now) (map (λ s. s.1) sets.now)) }
+    ensures { Computes (λ v. v) result (try_map (bound_value context.entry.now row.now) rights.now) }
 {
     let mut values = List::empty(alloc);
-    for set in sets.as_slice() {
-        values.push(value(alloc, &set.1, row, columns, context)?)?;
+    for right in rights {
+        values.push(right.value(alloc, row, context)?)?;
     }
     Ok(values)
+}
+
+// The same where all are in the same columns.
+fn set_values(
+    alloc: Global,
+    rights: &List<Bound>,
+    row: &Row,
+    context: &Context,
+) -> Result<List<Value>, SqlFault>
+    ensures { (all : ColumnsOf) → AreIn all rights.now → Computes (λ v. v) result (try_map (λ e. meaning all context.entry.now [] e row.now) (map (λ b. b.expr) rights.now)) }
+{
+    bound_values(alloc, rights.as_slice(), row, context)
 }
 
 // The new value of the column at a place where it is set, else the old one.
@@ -324,7 +368,26 @@ fn with_cells(
     Ok(values)
 }
 
-#[tactic(auto, unfolding(meaning_statements::specs::Changing::updated_row))]
+// What an UPDATE makes of a row.
+fn updated_by(
+    alloc: Global,
+    context: &Context,
+    columns: &List<Column>,
+    places: &List<usize>,
+    rights: &List<Bound>,
+    k: u32,
+    row: &Row,
+) -> Result<PutRow, SqlFault>
+    requires { k ≤ link_numbers }
+    ensures put { (all : ColumnsOf) → AreIn all rights.now → Computes (λ p. (p.values, p.next)) result (meant.updated_row all context.entry.now columns.now places.now (map (λ b. b.expr) rights.now) k row.now) }
+    ensures few { IfOk result (λ p. p.next ≤ link_numbers) }
+{
+    let values = set_values(alloc, rights, row, context)?;
+    let values = with_cells(alloc, places, &Row { values }, row)?;
+    stored_row(alloc, context.tx, k, columns, row, &Row { values })
+}
+
+// The same, where right sides have no places yet.
 fn updated_row(
     alloc: Global,
     all: &Columns,
@@ -339,9 +402,8 @@ fn updated_row(
     ensures put { Computes (λ p. (p.values, p.next)) result (meant.updated_row all.now context.entry.now columns.now places.now (map (λ s. s.1) sets.now) k row.now) }
     ensures few { IfOk result (λ p. p.next ≤ link_numbers) }
 {
-    let values = set_values(alloc, sets, row, all, context)?;
-    let values = with_cells(alloc, places, &Row { values }, row)?;
-    stored_row(alloc, context.tx, k, columns, row, &Row { values })
+    let rights = bound_sets(alloc, sets, all)?;
+    updated_by(alloc, context, columns, places, &rights, k, row)
 }
 
 /// What an UPDATE makes of a table, in a copy that shares all other rows with the table: of each row the condition, the right sides
@@ -394,6 +456,30 @@ fn update_each(
     ensures beside { IfOk result (λ u. RowsAgreeBeside u.numbers table.now.rows u.table.rows) }
     ensures told { IfOk result (λ u. length u.numbers ≡ u.met) }
 {
+    let bound = Filter::new(alloc, filter, all)?;
+    let rights = bound_sets(alloc, sets, all)?;
+    update_met(alloc, table, context, &bound, places, &rights, first)
+}
+
+// The same, the columns of the condition and of the right sides having places.
+fn update_met(
+    alloc: Global,
+    table: &Table,
+    context: &Context,
+    filter: &Filter,
+    places: &List<usize>,
+    rights: &List<Bound>,
+    first: u32,
+) -> Result<Updated, SqlFault>
+    requires numbers { first ≤ link_numbers }
+    requires rights { AreIn filter.now.columns rights.now }
+    ensures put { Computes (λ u. (u.table.rows, (u.next, u.met))) result (meant.updated_rows filter.now.columns context.entry.now table.now.columns (option_list filter.now.condition) places.now (map (λ b. b.expr) rights.now) first table.now.rows) }
+    ensures others { IfOk result (λ u. u.table ≡ record table.now { rows = u.table.rows }) }
+    ensures few { IfOk result (λ u. u.next ≤ link_numbers) }
+    ensures touched { IfOk result (λ u. Touches u.touched table.now.rows u.table.rows) }
+    ensures beside { IfOk result (λ u. RowsAgreeBeside u.numbers table.now.rows u.table.rows) }
+    ensures told { IfOk result (λ u. length u.numbers ≡ u.met) }
+{
     let mut made = table.copy()?;
     let mut numbers = List::empty(alloc);
     let mut k = first;
@@ -401,11 +487,11 @@ fn update_each(
     for i in 0..table.len() {
         match table.at(i) {
             Some((number, row)) => {
-                let is_met = filter_holds(alloc, filter, row, all, context)?;
+                let is_met = filter.holds(alloc, row, context)?;
                 if !is_met {
                     continue;
                 }
-                let put = updated_row(alloc, all, context, table.columns(), places, sets, k, row)?;
+                let put = updated_by(alloc, context, table.columns(), places, rights, k, row)?;
                 made.set(number, Row { values: put.values })?;
                 numbers.push(number)?;
                 k = put.next;

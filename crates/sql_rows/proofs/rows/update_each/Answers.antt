@@ -1,58 +1,26 @@
-use Rattle.std.proofs.Common.{◌≡◌, ◌+◌, ◌++◌, ◌∷◌, [], ℕ, List, true, false, drop, length, map, Ok, ap, ◌∙◌, arith, rules, subst, sym}
-use Rattle.dl_base.specs.declared.value.Row.{Row}
-use Rattle.meaning_sql.specs.Conditions.{holds_all}
-use Rattle.meaning_sql.specs.Faults.{option_list}
-use Rattle.meaning_statements.specs.Changing.{updated_row}
-use Rattle.meaning_tables.specs.Tables.{Rows, with_row}
-use Rattle.sql_rows.specs.Beside.{RowsAgreeBeside}
-use Rattle.sql_rows.proofs.Beside.{one_set, push_length}
-use Rattle.sql_rows.proofs.Placing.{still_of}
-use Rattle.sql_rows.proofs.Updating.{passed, rise_so, set_so}
+use Rattle.std.proofs.Common.{◌≡◌, List, ap, sym, subst, ◌∙◌}
+use Rattle.std.specs.Prelude.{map}
+use Rattle.dl_base.specs.declared.statement.Expr.{Expr}
+use Rattle.meaning_sql.specs.Columns.{Columns}
+use Rattle.meaning_sql.specs.Faults.{Computes, option_list}
+use Rattle.meaning_statements.specs.Changing.{updated_rows}
+use Rattle.sql_expr.specs.Binding.{AreIn, Bound, Filter}
+use Rattle.sql_rows.proofs.Rights.{all_bound, all_in, exprs_bound}
 use Rattle.sql_rows.proofs.rows.update_each.Goals as goal
 
-pub loop-i-preserved-then-not-is_met : goal.loop-i-preserved-then-not-is_met
-loop-i-preserved-then-not-is_met c =
-    let t = c.args.table.now in
-    let i = c.loop-i.i in
-    let number = c.in-Some.number in
-    let row = c.in-Some.row.now in
-    let rights = map (λ s. s.1) c.args.sets.now in
-    let conditions = option_list c.args.filter.now in
-    let at : drop i t.rows ≡ (number, row) ∷ drop (i + 1) t.rows = search rules in
-    let holds : holds_all c.args.all.now c.args.context.now conditions row ≡ Ok false = search rules in
-    record {
-      beside = c.loop-i.invariant.beside;
-      few = c.loop-i.invariant.few;
-      met = omega (arith, c.loop-i.invariant.met);
-      others = c.loop-i.invariant.others;
-      rise = c.loop-i.invariant.rise;
-      told = c.loop-i.invariant.told;
-      so = passed c.args.all.now c.args.context.now t conditions c.args.places.now rights c.args.first c.loop-i.made i c.loop-i.k c.loop-i.met number row at holds c.loop-i.invariant.so;
-    }
+pub update_met-requires-clause-rights : goal.update_met-requires-clause-rights
+update_met-requires-clause-rights c =
+    let a = c.args in
+    let is : c.in_ok-rights.rights ≡ all_bound a.all.now a.sets.now = c.in_ok-rights.ensures in
+    subst (λ (columns : Columns). AreIn columns c.in_ok-rights.rights) (sym (ap (λ (f : Filter). f.columns) c.in_ok-bound.ensures))
+    (subst (λ (bs : List Bound). AreIn a.all.now bs) (sym is) (all_in a.all.now a.sets.now))
 
-pub loop-i-preserved : goal.loop-i-preserved
-loop-i-preserved c =
-    let t = c.args.table.now in
-    let i = c.loop-i.i in
-    let made = c.loop-i.made in
-    let after = c.set.new.self in
-    let number = c.in-Some.number in
-    let row = c.in-Some.row.now in
-    let put = c.in_ok-put-in-Some.put in
-    let new : Row = record { values = put.values } in
-    let rights = map (λ s. s.1) c.args.sets.now in
-    let conditions = option_list c.args.filter.now in
-    let at : drop i t.rows ≡ (number, row) ∷ drop (i + 1) t.rows = search rules in
-    let holds : holds_all c.args.all.now c.args.context.now conditions row ≡ Ok true = search rules in
-    let becomes : updated_row c.args.all.now c.args.context.now t.columns c.args.places.now rights c.loop-i.k row ≡ Ok (put.values, put.next) = search rules in
-    let set : after ≡ record made { rows = with_row made.rows number new } = search rules in
-    let pushed : c.push.new.self ≡ c.loop-i.numbers ++ number ∷ [] = search rules in
-    record {
-      beside = subst (λ (ns : List ℕ). RowsAgreeBeside ns t.rows after.rows) (sym pushed) (one_set c.loop-i.numbers t.rows made.rows after.rows number new (ap (λ (x : Rows). x.rows) set) c.loop-i.invariant.beside);
-      few = search rules;
-      met = omega (arith, c.loop-i.invariant.met);
-      others = still_of t made after (with_row made.rows number new) c.loop-i.invariant.others set;
-      rise = rise_so c.args.all.now c.args.context.now t conditions c.args.places.now rights c.args.first made after i c.loop-i.k c.loop-i.met number row new at c.loop-i.invariant.rise set c.loop-i.invariant.so;
-      told = omega (arith, ap (λ (ns : List ℕ). length ns) pushed ∙ push_length c.loop-i.numbers number, c.loop-i.invariant.told);
-      so = set_so c.args.all.now c.args.context.now t conditions c.args.places.now rights c.args.first made after i c.loop-i.k put.next c.loop-i.met number row put.values at holds becomes c.loop-i.invariant.rise set c.loop-i.invariant.so;
-    }
+pub returns-clause-put : goal.returns-clause-put
+returns-clause-put c =
+    let a = c.args in
+    let t = a.table.now in
+    let is : c.in_ok-rights.rights ≡ all_bound a.all.now a.sets.now = c.in_ok-rights.ensures in
+    let exprs = ap (λ (bs : List Bound). map (λ b. b.expr) bs) is ∙ exprs_bound a.all.now a.sets.now in
+    subst (λ (es : List Expr). Computes (λ u. (u.table.rows, (u.next, u.met))) c.update_met.result (updated_rows a.all.now a.context.now t.columns (option_list a.filter.now) a.places.now es a.first t.rows)) exprs
+    (subst (λ (f : Filter). Computes (λ u. (u.table.rows, (u.next, u.met))) c.update_met.result (updated_rows f.columns a.context.now t.columns (option_list f.condition) a.places.now (map (λ b. b.expr) c.in_ok-rights.rights) a.first t.rows))
+    c.in_ok-bound.ensures c.update_met.ensures.put)

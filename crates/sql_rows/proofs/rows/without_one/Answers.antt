@@ -1,5 +1,4 @@
-use Rattle.std.proofs.Common.{◌≡◌, ◌∷◌, [], List, ap, rules}
-use Rattle.dl_base.specs.declared.value.Row.{Row}
+use Rattle.std.proofs.Common.{◌≡◌, ◌∷◌, [], ap, rules}
 use Rattle.meaning_tables.specs.Tables.{Rows, without_row}
 use Rattle.sql_rows.proofs.Beside.{only_fewer, only_gone}
 use Rattle.sql_rows.proofs.rows.without_one.Goals as goal

@@ -4,7 +4,7 @@ use Rattle.meaning_sql.specs.Faults.{option_list}
 use Rattle.meaning_tables.specs.Tables.{Rise}
 use Rattle.sql_rows.specs.Beside.{RowsAgreeBeside}
 use Rattle.sql_rows.proofs.Updating.{UpdatedSo}
-use Rattle.sql_rows.proofs.rows.update_each.Given as goal
+use Rattle.sql_rows.proofs.rows.update_met.Given as goal
 
 abbrev pub invariant-loop-i : goal.invariant-loop-i
 invariant-loop-i l = record {
@@ -14,5 +14,5 @@ invariant-loop-i l = record {
   others : l.made ≡ record l.table { rows = l.made.rows };
   rise : Rise 0 l.table.next l.made.rows;
   told : length l.numbers ≡ l.met;
-  so : UpdatedSo l.all l.context l.table (option_list l.filter) l.places (map (λ s. s.1) l.sets) l.first l.made l.i l.k l.met;
+  so : UpdatedSo l.filter.columns l.context l.table (option_list l.filter.condition) l.places (map (λ b. b.expr) l.rights) l.first l.made l.i l.k l.met;
 }

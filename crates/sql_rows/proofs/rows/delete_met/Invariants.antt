@@ -3,7 +3,7 @@ use Rattle.meaning_sql.specs.Faults.{option_list}
 use Rattle.meaning_tables.specs.Tables.{Rise}
 use Rattle.sql_rows.specs.Beside.{RowsAgreeBeside}
 use Rattle.sql_rows.proofs.Leaving.{LeftSo}
-use Rattle.sql_rows.proofs.rows.delete_each.Given as goal
+use Rattle.sql_rows.proofs.rows.delete_met.Given as goal
 
 abbrev pub invariant-loop-i : goal.invariant-loop-i
 invariant-loop-i l = record {
@@ -11,5 +11,5 @@ invariant-loop-i l = record {
   others : l.left ≡ record l.table { rows = l.left.rows };
   rise : Rise 0 l.table.next l.left.rows;
   told : length l.left.rows + length l.removed ≡ length l.table.rows;
-  so : LeftSo l.columns l.context l.table (option_list l.filter) l.left l.i;
+  so : LeftSo l.filter.columns l.context l.table (option_list l.filter.condition) l.left l.i;
 }

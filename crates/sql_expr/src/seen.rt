@@ -1,0 +1,56 @@
+// Values of expressions, looked at where they stand: a cell or a constant is copied only if it is kept.
+ghost use Rattle.std.specs.Prelude.{◌≡◌, IfOk};
+ghost use Rattle.meaning_sql.specs.Values as values_meant;
+ghost use Rattle.sql_expr.specs.Seeing.{IsSeen, seen};
+
+use dl_base::{Copied, Memory, Row, SqlFault, Value};
+
+/// A value of an expression.
+#[derive(Drop)]
+pub enum Seen<'a> {
+    /// One that stands in a row, or in the expression.
+    There(&'a Value),
+    /// One that was made.
+    Made(Value),
+}
+
+impl<'a> Seen<'a> {
+    pub(crate) fn get(&self) -> &Value
+        ensures { result.now ≡ seen self.now }
+    {
+        match self {
+            Seen::There(value) => *value,
+            Seen::Made(value) => value,
+        }
+    }
+
+    pub(crate) fn into_value(self) -> Result<Value, Memory>
+        ensures { IfOk result (λ v. v ≡ seen self.entry) }
+    {
+        match self {
+            Seen::There(value) => value.copy(),
+            Seen::Made(value) => Ok(value),
+        }
+    }
+}
+
+/// The value at a place from 0 of a row; NULL past its end.
+#[tactic(auto, unfolding(meaning_sql::specs::Values::cell))]
+pub(crate) fn cell_at(row: &Row, place: usize) -> Seen<'_>
+    ensures { seen result ≡ values_meant.cell row.now place }
+{
+    match row.values.at(place) {
+        Some(value) => Seen::There(value),
+        None => Seen::Made(Value::Null),
+    }
+}
+
+/// What a call made, as a value of an expression.
+pub(crate) fn made<'a>(value: Result<Value, SqlFault>) -> Result<Seen<'a>, SqlFault>
+    ensures { IsSeen value result }
+{
+    match value {
+        Ok(value) => Ok(Seen::Made(value)),
+        Err(fault) => Err(fault),
+    }
+}
