@@ -3,3 +3,4 @@ pub mod Leaving
 pub mod Working
 pub mod Comparing
 pub mod Machine
+pub mod Moving

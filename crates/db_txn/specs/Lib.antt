@@ -1,5 +1,6 @@
 pub mod Branching
 pub mod Comparing
+pub mod Moving
 pub mod Naming
 pub mod Transaction
 pub mod Working

@@ -1,17 +1,26 @@
 // Whether a transaction has a branch.
 ghost use Rattle.std.specs.Prelude.{◌≡◌, IfOk};
+ghost use Rattle.db_changes.specs.Touched.{Covers};
 ghost use Rattle.meaning_system.specs.State.{is_empty};
 ghost use Rattle.db_txn.specs.Branching.{has_branch as meant};
 
+use crate::moved::moved;
+use db_changes::TouchedRows;
 use dl_base::{LinkRow, List, Memory};
-use sql_table::{Tables, gives_takes};
+use sql_table::Tables;
 use std::alloc::Global;
 
-/// Whether a copy gives or takes a link of its base. The cost grows with the number of links of both.
-pub(crate) fn has_branch(alloc: Global, base: &Tables, copy: &Tables) -> Result<bool, Memory>
+/// Whether a copy gives or takes a link of its base. It costs what `moved` does.
+pub(crate) fn has_branch(
+    alloc: Global,
+    base: &Tables,
+    copy: &Tables,
+    touched: &TouchedRows,
+) -> Result<bool, Memory>
+    requires { Covers touched.now base.now copy.now }
     ensures { IfOk result (λ has. has ≡ meant base.now copy.now) }
 {
-    let (gives, takes) = gives_takes(alloc, base, copy)?;
+    let (gives, takes) = moved(alloc, base, copy, touched)?;
     Ok(!(is_empty(&gives) && is_empty(&takes)))
 }
 

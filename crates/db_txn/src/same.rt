@@ -68,7 +68,8 @@ fn has_same_head(was: &Table, now: &Table) -> bool
     has_same_columns(was, now) && was.next_number() == now.next_number()
 }
 
-fn has_same_columns(was: &Table, now: &Table) -> bool
+/// Whether two tables have the same columns. It takes no memory.
+pub(crate) fn has_same_columns(was: &Table, now: &Table) -> bool
     ensures { result ≡ same_columns was.now now.now }
 {
     was.columns().same(now.columns())

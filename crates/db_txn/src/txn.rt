@@ -5,15 +5,17 @@ ghost use Rattle.dl_base.specs.declared.sql_fault.SqlFault.TheVariants as faults
 ghost use Rattle.db_changes.specs.Touched.{AreCommitted};
 ghost use Rattle.meaning_areas.specs.Same.{same_tables};
 ghost use Rattle.meaning_tables.specs.Fits.{RowsFit};
+ghost use Rattle.meaning_tables.specs.Links.{gives, takes};
 ghost use Rattle.sql_run.specs.Outcomes.{evaluated as meant};
 ghost use Rattle.sql_run.specs.declared.evaluating.Outcome.TheVariants as outcomes;
 ghost use Rattle.db_txn.specs.Transaction.{after_evaluation, back_to, begun, made_of, is_plain, standing, undone_to, vacant, with_made};
 
 use crate::branch::has_branch;
+use crate::moved::moved;
 use crate::same::are_same;
 use crate::work::{Before, Work, evaluated};
 use db_changes::Made;
-use dl_base::{List, Memory, Name, Stmt};
+use dl_base::{LinkRow, List, Memory, Name, Stmt};
 use meaning_sql::Context;
 use sql_run::Outcome;
 use sql_table::Tables;
@@ -192,9 +194,18 @@ impl Txn {
         are_same(&self.base, &self.work.copy, &self.work.touched)
     }
 
+    /// The links that the transaction gives and those that it takes, in the order of tables, rows and columns. The error is want of
+    /// memory. Of tables that both have only the rows that its statements touched are looked at, so the cost grows with the number of
+    /// tables, with the touched rows, and with the rows of new tables and of dropped ones.
+    pub fn moved(&self) -> Result<(List<LinkRow>, List<LinkRow>), Memory>
+        ensures { IfOk result (λ made. (made.0 ≡ gives self.now.base self.now.copy) × (made.1 ≡ takes self.now.base self.now.copy)) }
+    {
+        moved(self.alloc, &self.base, &self.work.copy, &self.work.touched)
+    }
+
     /// What the transaction has made of its base, with a branch exactly where it gives or takes a link; from then on it is not
     /// active. After an `Err`, which is want of memory, all is as it was. The cost grows with the number of tables, with the touched
-    /// rows, with the rows of new tables, and with the number of links.
+    /// rows, and with the rows of new tables and of dropped ones.
     pub fn made(&mut self) -> Result<Made, Memory>
         requires begun { is_some self.old.tx ≡ true }
         requires active { self.old.made ≡ false }
@@ -202,7 +213,7 @@ impl Txn {
         ensures ok { OnOk result (self.new ≡ with_made self.old true) }
         ensures err { OnErr result (self.new ≡ self.old) }
     {
-        let branch = has_branch(self.alloc, &self.base, &self.work.copy)?;
+        let branch = has_branch(self.alloc, &self.base, &self.work.copy, &self.work.touched)?;
         let made = Made::new(
             self.alloc,
             self.tx.unwrap_or(0),

@@ -13,13 +13,13 @@ use db_txn::Txn;
 use dl_base::{LinkRow, List, Memory, Refusal, Same};
 use fm_links::Claims;
 use sql_run::Outcome;
-use sql_table::gives_takes;
 use sys_seats::{SeatClaim, Seats};
 
 impl Engine {
     // Claims what a transaction gives and takes after its last evaluation, in the place of what it has claimed, and tells why it may not.
     // Nothing is asked where the evaluation was refused, or where the transaction claims the same links already. The error is want of
-    // memory, after which the claims are as they were. It costs n log n of the links named, and nothing of the claims of others.
+    // memory, after which the claims are as they were. It costs what `moved` of `Txn` does, n log n of the links named, and nothing of
+    // the claims of others.
     pub(crate) fn claim(&mut self, txn: &Txn, tx: u64) -> Result<Option<Refusal>, Memory>
         ensures ends { IfOk result (EndsClaim self.old self.new tx txn.now) }
         ensures memory { OnErr result (HasSameClaims self.old self.new) }
@@ -27,7 +27,7 @@ impl Engine {
         if was_refused(txn) {
             return Ok(None);
         }
-        let (gives, takes) = gives_takes(self.alloc, txn.base(), txn.tables())?;
+        let (gives, takes) = txn.moved()?;
         if self.has_claimed(tx, &gives, &takes) {
             return Ok(None);
         }
