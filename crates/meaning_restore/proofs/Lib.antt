@@ -1,0 +1,10 @@
+pub mod Bare
+pub mod Let
+pub mod Changes
+pub mod Given
+pub mod Free
+pub mod Numbers
+pub mod Drawn
+pub mod Ready
+pub mod Merging
+pub mod Owed
