@@ -1,5 +1,5 @@
 // The backups that are open on a bench.
-ghost use Rattle.std.specs.Prelude.{◌≡◌, ◌≤◌, ◌+◌, ◌^◌, ◌∷◌, [], ℕ, List, Some, Ok, Err, IfOk, OnOk, OnErr, length};
+ghost use Rattle.std.specs.Prelude.{◌≡◌, ◌≢◌, ◌≤◌, ◌+◌, ◌^◌, ◌∷◌, [], ℕ, List, Some, Ok, Err, IfOk, OnOk, OnErr, length};
 ghost use Rattle.std.specs.Option.{option_copied, option_map};
 ghost use Rattle.std.specs.Result.{result_err};
 ghost use Rattle.bk_backup.specs.Images.{record_of};
@@ -137,6 +137,9 @@ impl Backups {
         ensures err { OnErr result (self.new ≡ self.old) }
         ensures memory { result ≡ Err StepFault.Memory → bench.new ≡ bench.old }
         ensures does { EndsAlone (extent self.old) (extent self.new) (backup_write self.old.backups commit tables.now ∷ []) (result_err result) (B.outside bench.old) (B.outside bench.new) }
+
+        // Its record has a spelling, but where it ended in want of memory.
+        ensures spelled { result ≢ Err StepFault.Memory → backup_record.fits (record_of self.old.backups commit tables.now) }
     {
         steps_end_so::<B>();
         let (number, body) = enter(self.alloc, &mut self.backups, commit, tables)?;
@@ -160,6 +163,7 @@ fn enter(
 ) -> Result<(u64, List<u8>), Memory>
     ensures number { IfOk result (λ made. made.0 ≡ length backups.old + 1) }
     ensures body { IfOk result (λ made. made.1 ≡ backup_record.spelling (record_of backups.old commit tables.now)) }
+    ensures fits { OnOk result (backup_record.fits (record_of backups.old commit tables.now)) }
     ensures ok { OnOk result (backups.new ≡ with_backup backups.old commit tables.now) }
     ensures taken { OnOk result (backups_step backups.old (record_of backups.old commit tables.now) ≡ Some (with_backup backups.old commit tables.now)) }
     ensures err { OnErr result (backups.new ≡ backups.old) }

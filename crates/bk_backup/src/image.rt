@@ -15,6 +15,7 @@ use std::alloc::Global;
 /// The body of the record of a backup.
 pub fn body_of(alloc: Global, number: u64, commit: u64, tables: &Tables) -> Result<List<u8>, Memory>
     ensures body { IfOk result (λ body. body ≡ backup_record.spelling (records.Backup number commit (map image_of tables.now))) }
+    ensures fits { OnOk result (backup_record.fits (records.Backup number commit (map image_of tables.now))) }
     ensures differ { OnOk result (differ bytes_eq (map (λ t. t.0) tables.now) ≡ true) }
     ensures stand { OnOk result (list_all image_stands (map image_of tables.now) ≡ true) }
 {

@@ -78,7 +78,7 @@ ok_err x e is = cc
 err_same : {T E : Type 0} (x y : E) → ◌≡◌ {A = Result T E} (Err x) (Err y) → x ≡ y
 err_same x y e = cc
 
-draw-left : (n : ℕ) → draw_full n ≡ None → n + 1 < 2 ^ 32
+pub draw-left : (n : ℕ) → draw_full n ≡ None → n + 1 < 2 ^ 32
 draw-left n none = by (nat_lt most_numbers n) refl none
   where
     least : (a b : ℕ) → nat_lt a b ≡ false → b ≤ a

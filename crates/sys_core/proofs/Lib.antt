@@ -1,8 +1,10 @@
 pub mod Asking
 pub mod Awaiting
+pub mod BackingUp
 pub mod Beginning
 pub mod Behind
 pub mod Between
+pub mod Branched
 pub mod Claiming
 pub mod Commanding
 pub mod Deciding
@@ -16,8 +18,10 @@ pub mod Left
 pub mod Managing
 pub mod Others
 pub mod Preparing
+pub mod PuttingBack
 pub mod Refusals
 pub mod Refused
+pub mod Restored
 pub mod RollingBack
 pub mod Roomy
 pub mod Seating

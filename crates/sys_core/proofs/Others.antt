@@ -131,12 +131,14 @@ drop-all-keeps (tx ∷ txs) s n u at =
     let one = drop-left-keeps s n u tx (maps.get s.txs tx) at in
     drop-all-keeps txs next n u (still next.sessions s.sessions n u one.0 at) ∙ one.1
 
-left-resolved : (s : State) (n : ℕ) → Left s n (resolve s).1
-left-resolved s n = left-by s (resolve s).1 n
-    (ap (λ (m : maps.FinMap nat_cmp ℕ). maps.get m n) (resolve-same (λ (x : State). x.sessions) (λ x tx. refl) (λ x t. refl) s))
-    (λ u at.
+pub resolved-there : (s : State) (n u : ℕ) → maps.get s.sessions n ≡ Some u → maps.get (resolve s).1.txs u ≡ maps.get s.txs u
+resolved-there s n u at =
     let all = finish-all-keeps s.commits s n u at in
-    drop-all-keeps (maps.keys s.txs) (finish_all s s.commits) n u (still (finish_all s s.commits).sessions s.sessions n u all.0 at) ∙ all.1)
+    drop-all-keeps (maps.keys s.txs) (finish_all s s.commits) n u (still (finish_all s s.commits).sessions s.sessions n u all.0 at) ∙ all.1
+
+left-resolved : (s : State) (n : ℕ) → Left s n (resolve s).1
+left-resolved s n =
+    left-by s (resolve s).1 n (ap (λ (m : maps.FinMap nat_cmp ℕ). maps.get m n) (resolve-same (λ (x : State). x.sessions) (λ x tx. refl) (λ x t. refl) s)) (resolved-there s n)
 
 -- EACH STEP
 left-behind : (s : State) (x : Step) (n : ℕ) → AreSeparate s → IsOther x n → Left s n (step s x).1

@@ -1,5 +1,5 @@
 -- THE RECORDS OF STEPS HAVE SPELLINGS.
-use Rattle.std.proofs.Common.{◌≡◌, ℕ, ◌+◌, ◌<◌, ◌^◌, List, [], ◌∷◌, ◌++◌, length, map, Bool, true, false, not, Option, Some, None, Result, Err, sym, ◌∙◌, ap, subst}
+use Rattle.std.proofs.Common.{◌≡◌, ℕ, ◌+◌, ◌<◌, ◌^◌, List, [], ◌∷◌, ◌++◌, length, Bool, true, false, not, Option, Some, None, Result, Err, sym, ◌∙◌, ap, subst}
 use Rattle.db_changes.specs.Made.{Making, record_of}
 use Rattle.dl_base.specs.declared.answer.Answer.{Answer}
 use Rattle.dl_base.specs.declared.answer.Answer.TheVariants as answers
@@ -10,7 +10,6 @@ use Rattle.dl_base.specs.declared.file.FileChange.{FileChange}
 use Rattle.dl_base.specs.declared.file.FileCmd.{FileCmd}
 use Rattle.dl_base.specs.declared.step.Phase.TheVariants as phases
 use Rattle.dl_base.specs.declared.step.Step.TheVariants as steps
-use Rattle.dl_base.specs.declared.value.LinkRow.{LinkRow}
 use Rattle.dl_codec.specs.Files.{files_record}
 use Rattle.dl_codec.specs.Layout.{u64}
 use Rattle.dl_codec.specs.Links.{links_record}
@@ -18,7 +17,6 @@ use Rattle.dl_codec.specs.Rows.{rows_record}
 use Rattle.dl_codec.specs.declared.files.FilesRecord.TheVariants as files_records
 use Rattle.dl_codec.specs.declared.links.BranchPhase.TheVariants as branch_phases
 use Rattle.dl_codec.specs.declared.links.LinksRecord.TheVariants as links_records
-use Rattle.dl_codec.specs.declared.links.Taken.{Taken}
 use Rattle.dl_codec.specs.declared.rows.RowsRecord.TheVariants as rows_records
 use Rattle.fm_links.specs.Claims.{moved}
 use Rattle.fm_manager.proofs.Parts.{finish-parts}
@@ -34,12 +32,11 @@ use Rattle.meaning_settling.specs.Settling.{Moved}
 use Rattle.meaning_system.specs.Commands.{command_refusal}
 use Rattle.meaning_system.specs.Machine.{next_commit, step}
 use Rattle.meaning_system.specs.State.{State, Txn, has_links, moved_of}
-use Rattle.meaning_system.specs.Writes.{file_writes, is_refused, prepared, taken_by, when, writes}
+use Rattle.meaning_system.specs.Writes.{file_writes, is_refused, prepared, when, writes}
 use Rattle.sys_core.proofs.Commanding.{stepped}
 use Rattle.sys_core.proofs.Deciding.{commit-writes, conflict-writes}
 use Rattle.sys_core.proofs.RollingBack.{aborts}
 use Rattle.sys_core.proofs.Seating.{seat-moved}
-use Rattle.sys_core.proofs.Voted.{prepared-copies}
 use Rattle.sys_core.specs.Between.{DecidesTo, IsBetween}
 use Rattle.sys_core.specs.Seated.{IsSeatOf, making_of}
 use Rattle.sys_core.specs.declared.engine.Engine.{Engine}
@@ -68,14 +65,7 @@ unfolding links_record u64
 aborts-spelled tx small true = (small, tt)
 aborts-spelled tx small false = tt
 
--- THE PREPARED of a transaction, where it gives or takes a link
-
-pub prepared-spelled : (tx : ℕ) (gives takes mine : List LinkRow) (made : List Taken) → has_links (moved gives takes) ≡ true → mine ≡ gives → made ≡ map (taken_by false) takes
-    → IsSpelled (in_links (links_records.Prepared tx mine made)) → AreSpelled (prepared tx (moved gives takes))
-prepared-spelled tx gives takes mine made has is_mine is_made spelled =
-    as-spelled (prepared tx (moved gives takes)) (in_links (links_records.Prepared tx mine made) ∷ []) (sym (prepared-copies tx gives takes mine made has is_mine is_made)) (spelled, tt)
-
--- by what the seat has of it
+-- THE PREPARED of a transaction, by what its seat has
 pub seat-spelled : (s : State) (tx : ℕ) (t : Txn) (x : Seat) → IsSeatOf s tx t x → AreSpelled (prepared tx (moved x.claim.gives x.claim.takes)) → AreSpelled (prepared tx (moved_of t))
 seat-spelled s tx t x is spelled = subst (λ (m : Moved). AreSpelled (prepared tx m)) (seat-moved s tx t x is) spelled
 

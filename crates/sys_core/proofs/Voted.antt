@@ -1,5 +1,5 @@
 -- A VOTE AS A STEP of the machine: its record, the state behind it, and how the step ends.
-use Rattle.std.proofs.Common.{◌≡◌, ◌≤◌, ◌+◌, ℕ, length, map, true, false, not, List, [], ◌∷◌, Option, Some, None, is_some, Result, Ok, Err, refl, sym, ◌∙◌, ap, subst, arith}
+use Rattle.std.proofs.Common.{◌≡◌, ◌≤◌, ◌+◌, ℕ, length, true, false, not, List, [], Option, Some, None, is_some, Result, Ok, Err, refl, sym, ◌∙◌, ap, subst, arith}
 use Rattle.std.specs.FinMap as maps
 use Rattle.db_txn.specs.Transaction.{Transaction, made_of, with_made}
 use Rattle.dl_areas.specs.Lists.{AreReady, Journals, Write}
@@ -16,22 +16,20 @@ use Rattle.dl_base.specs.declared.step.Phase.{Phase}
 use Rattle.dl_base.specs.declared.step.Phase.TheVariants as phases
 use Rattle.dl_base.specs.declared.step.Step.TheVariants as steps
 use Rattle.dl_base.specs.declared.value.LinkRow.{LinkRow}
-use Rattle.dl_codec.specs.declared.links.LinksRecord.TheVariants as links_records
-use Rattle.dl_codec.specs.declared.links.Taken.{Taken}
 use Rattle.fm_links.specs.Claims.{PathClaim, moved}
 use Rattle.fm_links.specs.Searching.{AreClaims}
-use Rattle.fm_manager.specs.Managed.{IsTakenBy, Managed, ManagesStep, as_writes, with_managed}
+use Rattle.fm_manager.specs.Managed.{Managed, ManagesStep, as_writes, with_managed}
 use Rattle.fm_manager.specs.Pieces.{Pieces}
 use Rattle.fm_pieces.specs.Keeping.{HasPieces}
 use Rattle.meaning_areas.proofs.Tables.{get-here, get-there}
-use Rattle.meaning_areas.specs.Lists.{Folds, Written, folds_on, in_links}
+use Rattle.meaning_areas.specs.Lists.{Folds, Written, folds_on}
 use Rattle.meaning_history.specs.Sound.{AreSound}
 use Rattle.meaning_settling.specs.Keyed.{Keyed}
 use Rattle.meaning_settling.specs.Settling.{Moved}
 use Rattle.meaning_system.specs.Claims.{prepare_refusal}
 use Rattle.meaning_system.specs.Machine.{on_session, on_txn, step, voted, with_phase}
-use Rattle.meaning_system.specs.State.{State, Txn, has_links, is_active, moved_of, txn_of, with_txn}
-use Rattle.meaning_system.specs.Writes.{is_refused, prepared, session_writes, taken_by, txn_writes, when, writes}
+use Rattle.meaning_system.specs.State.{State, Txn, is_active, moved_of, txn_of, with_txn}
+use Rattle.meaning_system.specs.Writes.{is_refused, prepared, session_writes, txn_writes, when, writes}
 use Rattle.sys_core.proofs.Behind.{EachLeads, behind-sound, behind-taken, no-prepare}
 use Rattle.sys_core.proofs.Ended.{SeatsPut}
 use Rattle.sys_core.proofs.Knowing.{Knows, put-txn}
@@ -45,7 +43,6 @@ use Rattle.sys_core.specs.Steps.{Shows, Steps}
 use Rattle.sys_core.specs.Voting.{CanVote, HaveMoreRoom, Votes}
 use Rattle.sys_core.specs.declared.engine.Engine.{Engine}
 use Rattle.sys_opening.proofs.Placing.{with_manager}
-use Rattle.sys_opening.proofs.Taking.{taken-anywhere}
 use Rattle.sys_opening.specs.Owned.{Owned, folds_in, journals_of}
 use Rattle.sys_seats.specs.Seats.{Seated, all_of, count_at, gives_of, votes_of, with_stage}
 use Rattle.sys_seats.specs.declared.seat.Seat.{Seat}
@@ -192,26 +189,6 @@ manager-at w m = λ i a. each a i
 pub manager-ends : (w : Owned) (ws : List Write) (fault : Option StepFault) (o n : Outside) → AreReady (journals_of w) o → (m : Managed) → ManagesStep w.manager m ws fault o n → Ends (journals_of w) (journals_of (with_manager w m)) ws fault o n
 manager-ends w ws fault o n ready m call =
     subst (λ (ks : Journals). Ends (journals_of w) ks ws fault o n) (manager-at w m) (call.ends (journals_of w) ready (manager-at w w.manager))
-
--- THE RECORD of a vote, where there is one
-
-pub nothing-prepared : (tx : ℕ) (gives takes : List LinkRow) → has_links (moved gives takes) ≡ false → prepared tx (moved gives takes) ≡ []
-nothing-prepared tx gives takes none = ap (λ b. when b (in_links (links_records.Prepared tx gives (map (taken_by false) takes)) ∷ [])) none
-
-pub something-prepared : (tx : ℕ) (gives takes : List LinkRow) → has_links (moved gives takes) ≡ true → prepared tx (moved gives takes) ≡ in_links (links_records.Prepared tx gives (map (taken_by false) takes)) ∷ []
-something-prepared tx gives takes has = ap (λ b. when b (in_links (links_records.Prepared tx gives (map (taken_by false) takes)) ∷ [])) has
-
--- with copies of what is given and taken
-pub prepared-copies : (tx : ℕ) (gives takes mine : List LinkRow) (made : List Taken) → has_links (moved gives takes) ≡ true → mine ≡ gives → made ≡ map (taken_by false) takes
-    → in_links (links_records.Prepared tx mine made) ∷ [] ≡ prepared tx (moved gives takes)
-prepared-copies tx gives takes mine made has is_mine is_made =
-    (λ i. in_links (links_records.Prepared tx (is_mine i) (is_made i)) ∷ []) ∙ sym (something-prepared tx gives takes has)
-
-pub prepared-taken : (w : Owned) (tx : ℕ) (gives takes mine : List LinkRow) (made : List Taken) → has_links (moved gives takes) ≡ true → mine ≡ gives → made ≡ map (taken_by false) takes
-    → is_some (folds_on (Some (folds_in w)) (prepared tx (moved gives takes))) ≡ true → IsTakenBy w.manager (in_links (links_records.Prepared tx mine made) ∷ [])
-prepared-taken w tx gives takes mine made has is_mine is_made taken =
-    taken-anywhere w.manager w.store.rows w.backups.backups (in_links (links_records.Prepared tx mine made) ∷ []) (tt, tt)
-    (ap (λ (xs : List Written). is_some (folds_on (Some (folds_in w)) xs)) (prepared-copies tx gives takes mine made has is_mine is_made) ∙ taken)
 
 -- HOW THE STEP ENDS
 

@@ -1,5 +1,5 @@
 -- The links that wait for a copy, and the copy that each waits for: by what an engine has, and by the state of the machine.
-use Rattle.std.specs.Prelude.{◌≡◌, ℕ, ◌+◌, ◌≤◌, ◌&&◌, Bool, false, not, if◌then◌else◌, List, is_none, Option, Some, None}
+use Rattle.std.specs.Prelude.{◌≡◌, ℕ, ◌+◌, ◌≤◌, ◌&&◌, Bool, false, not, if◌then◌else◌, List, [], ◌∷◌, is_none, Option, Some, None}
 use Rattle.std.specs.FinMap as maps
 use Rattle.std.specs.List.{find}
 use Rattle.std.specs.Option.{option_map}
@@ -64,3 +64,8 @@ pub record CanStore (first : ℕ) (w : Engine) (s : State) (n : LinkNo) (c : Fil
   pub state : IsOf first w s
   pub waits : awaited s n ≡ Some c
   pub room : all_of gives_of w.seats + 1 ≤ w.owners.manager.archive.spare
+
+-- the first of some links
+abbrev pub first_link : List LinkRow → Option LinkNo
+first_link [] = None
+first_link (l ∷ ls) = Some l.link

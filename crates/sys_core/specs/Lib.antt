@@ -3,6 +3,7 @@ pub mod Between
 pub mod Claiming
 pub mod Guarded
 pub mod Numbered
+pub mod Restoring
 pub mod Seated
 pub mod Sessions
 pub mod Standing

@@ -7,6 +7,7 @@ use Rattle.dl_areas.specs.Writing.{Ends}
 use Rattle.dl_base.specs.Faults.{step_fault}
 use Rattle.dl_base.specs.Outside.{Outside}
 use Rattle.dl_base.specs.declared.answer.Answer.{Answer}
+use Rattle.dl_base.specs.declared.answer.Answer.TheVariants as answers
 use Rattle.dl_base.specs.declared.area.Area.TheVariants as areas
 use Rattle.dl_base.specs.declared.fault.AppendFault.{AppendFault}
 use Rattle.dl_base.specs.declared.fault.Full.{Full}
@@ -29,13 +30,18 @@ abbrev pub undrawn : Option Full → List Write
 undrawn None = []
 undrawn (Some full) = write_of areas.Rows [] (Some full) ∷ []
 
--- BEGIN of a session without a transaction draws the next number (of the steps that are built no other draws one)
+-- BEGIN of a session without a transaction draws the next number, and so does a restore that is let through
 abbrev pub draws_by : Option (ℕ × Txn) → ℕ → List Write
 draws_by None next = undrawn (draw_full next)
 draws_by (Some e) next = []
 
+abbrev pub draws_for : Answer → ℕ → List Write
+draws_for (answers.Restored c lost) next = undrawn (draw_full next)
+draws_for answer next = []
+
 abbrev pub draws : State → Step → List Write
 draws s (steps.Begin session) = draws_by (txn_of s session) (s.drawn + 1)
+draws s (steps.Restore t) = draws_for (step s (steps.Restore t)).0 (s.drawn + 1)
 draws s x = []
 
 -- the result of a step that takes no memory

@@ -1,10 +1,12 @@
 //! The steps of the machine over the owners of the five areas: BEGIN, statements, the vote, the decision and its Finish, ROLLBACK,
-//! commands on files, and the clock.
+//! commands on files, the archive, backups, restores, and the clock.
 #![tactic(auto)]
 
 mod archive;
 mod archiving;
+mod backup;
 mod begin;
+mod branch;
 mod claim;
 mod clock;
 mod command;
@@ -19,6 +21,8 @@ mod opening;
 mod pending;
 mod prepare;
 mod refusing;
+mod restore;
+mod restoring;
 mod roll_back;
 mod statement;
 mod versions;

@@ -1,27 +1,24 @@
 // What a vote looks at, makes and writes.
-ghost use Rattle.std.specs.Prelude.{◌≡◌, ◌≢◌, ◌+◌, ◌≤◌, ℕ, Err, IfOk, OnErr, OnOk, Some, false, is_some, length, map, true};
+ghost use Rattle.std.specs.Prelude.{◌≡◌, ◌≢◌, ◌+◌, ◌≤◌, ℕ, Err, IfOk, OnOk, Some, false, length};
 ghost use Rattle.std.specs.FinMap as maps;
-ghost use Rattle.std.specs.Result.{result_err};
 ghost use Rattle.dl_areas.specs.Lists.{AreReady};
-ghost use Rattle.dl_areas.specs.Writing.{Ends};
 ghost use Rattle.fm_links.specs.Claims.{moved};
-ghost use Rattle.fm_manager.specs.Managed.{AreSpelled, Roomier, as_writes};
+ghost use Rattle.fm_manager.specs.Managed.{AreSpelled, Roomier};
 ghost use Rattle.fm_pieces.specs.Keeping.{AreThere, HasPieces};
-ghost use Rattle.meaning_areas.specs.Lists.{folds_on};
 ghost use Rattle.meaning_system.specs.Claims.{files_refusal, prepare_refusal};
-ghost use Rattle.meaning_system.specs.State.{State, Txn, has_links, is_empty, moved_of};
-ghost use Rattle.meaning_system.specs.Writes.{prepared, taken_by};
+ghost use Rattle.meaning_system.specs.State.{State, Txn, has_links, moved_of};
+ghost use Rattle.meaning_system.specs.Writes.{prepared};
 ghost use Rattle.sys_core.specs.Seated.{IsSeatOf, making_of};
 ghost use Rattle.sys_core.specs.Standing.{IsOf};
 ghost use Rattle.sys_core.specs.Voting.{CanEnter, CanVote, HaveMoreRoom, Votes};
-ghost use Rattle.sys_opening.specs.Owned.{folds_in, journals_of};
+ghost use Rattle.sys_opening.specs.Owned.{journals_of};
 ghost use Rattle.sys_seats.specs.Seats.{all_of, gives_of, votes_of};
 
+use crate::branch::{moves_links, write_prepared};
 use crate::engine::Engine;
 use db_changes::Made;
 use dl_areas::calls_follow_one_another;
 use dl_base::{Bench, Copied, LinkRow, List, Memory, Name, Refusal, StepFault};
-use dl_codec::Taken;
 use fm_links::claims_behind_steps_of_a_session;
 use fm_manager::{Manager, Pieces};
 use fm_pieces::pieces_as_they_are_made;
@@ -102,7 +99,14 @@ impl Engine {
         let Some(seat) = self.seats.get(tx) else {
             unreachable!();
         };
-        match write_prepared(&mut self.owners, bench, tx, &seat.claim) {
+        match write_prepared(
+            &mut self.owners,
+            bench,
+            tx,
+            &seat.claim.gives,
+            &seat.claim.takes,
+            false,
+        ) {
             Ok(()) => {
                 let _ = self.seats.change_stage(tx, Stage::Prepared(vote));
                 Ok(())
@@ -116,13 +120,7 @@ impl Engine {
 fn has_links(claim: &SeatClaim) -> bool
     ensures { result ≡ has_links (moved claim.now.gives claim.now.takes) }
 {
-    !(is_empty(&claim.gives) && is_empty(&claim.takes))
-}
-
-fn is_empty(links: &List<LinkRow>) -> bool
-    ensures { result ≡ is_empty links.now }
-{
-    links.len() == 0
+    moves_links(&claim.gives, &claim.takes)
 }
 
 // What is made for a vote. Behind it there is room for the commit, and for copies of the links that are given.
@@ -167,7 +165,7 @@ fn pieces_of(manager: &mut Manager, tx: u64, claim: &SeatClaim) -> Result<Option
 }
 
 // Makes room for the commit of one more transaction, and for copies of so many links that it gives.
-fn make_room(owners: &mut Owners, seats: &Seats, gives: usize) -> Result<(), Memory>
+pub(crate) fn make_room(owners: &mut Owners, seats: &Seats, gives: usize) -> Result<(), Memory>
     ensures same { HaveMoreRoom owners.old owners.new }
     ensures commits { OnOk result (all_of votes_of seats.now + 1 ≤ owners.new.store.spare) }
     ensures copies { OnOk result (all_of gives_of seats.now + gives ≤ owners.new.manager.archive.spare) }
@@ -200,39 +198,4 @@ pub(crate) fn gives_with(seats: &Seats, more: usize) -> Result<u64, Memory>
         Some(sum) => Ok(sum),
         None => Err(Memory),
     }
-}
-
-// Writes the Prepared of a transaction, where it gives or takes a link. It takes its memory before it writes.
-fn write_prepared<B: Bench>(
-    owners: &mut Owners,
-    bench: &mut B,
-    tx: u64,
-    claim: &SeatClaim,
-) -> Result<(), StepFault>
-    requires ready { AreReady (journals_of owners.old) (B.outside bench.old) }
-    requires taken { is_some (folds_on (Some (folds_in owners.old)) (prepared tx (moved claim.now.gives claim.now.takes))) ≡ true }
-    ensures folds { OnOk result (folds_on (Some (folds_in owners.old)) (prepared tx (moved claim.now.gives claim.now.takes)) ≡ Some (folds_in owners.new)) }
-    ensures same { OnOk result (owners.new ≡ record owners.old { manager = record owners.old.manager { links = owners.new.manager.links } }) }
-    ensures err { OnErr result (owners.new ≡ owners.old) }
-    ensures ends { Ends (journals_of owners.old) (journals_of owners.new) (as_writes (prepared tx (moved claim.now.gives claim.now.takes))) (result_err result) (B.outside bench.old) (B.outside bench.new) }
-    ensures spelled { result ≢ Err StepFault.Memory → AreSpelled (prepared tx (moved claim.now.gives claim.now.takes)) }
-{
-    calls_follow_one_another::<B>();
-    if !has_links(claim) {
-        return Ok(());
-    }
-    let gives = claim.gives.copy()?;
-    let takes = unfilled(&claim.takes)?;
-    owners.manager.prepare(bench, tx, gives, takes)
-}
-
-// Takes whose files are not to be put back.
-fn unfilled(takes: &List<LinkRow>) -> Result<List<Taken>, Memory>
-    ensures { IfOk result (λ made. made ≡ map (taken_by false) takes.now) }
-{
-    let mut made = List::empty(takes.allocator());
-    for link in takes.copy()?.into_vec() {
-        made.push(Taken { link, fill: false })?;
-    }
-    Ok(made)
 }

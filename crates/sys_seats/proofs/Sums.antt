@@ -12,7 +12,7 @@ use Rattle.std.specs.Ordering.{eq_by_cmp, is_eq, is_lt, nat_cmp}
 use Rattle.std.specs.declared.cmp.Ordering.{Ordering}
 use Rattle.std.specs.declared.cmp.Ordering.TheVariants.{Less, Equal, Greater}
 use Rattle.fm_branch.proofs.Maps.{entries-empty, entries-of, missed, same-tied}
-use Rattle.sys_seats.specs.Seats.{Seated, all_of, count_at, sum_of}
+use Rattle.sys_seats.specs.Seats.{Seated, all_of, count_at, first_bound, phases_in, sum_of, unfinished_of}
 use Rattle.sys_seats.specs.declared.seat.Seat.{Seat}
 
 pub if_some : {A : Type 0} {P Q : A → Type 0} (o : Option A) → IfSome o P → ((x : A) → P x → Q x) → IfSome o Q
@@ -113,3 +113,8 @@ taken-counted count seats tx = by (maps.get seats tx) refl
         sym (put-counted count (maps.remove seats tx) tx seat)
         ∙ (λ i. all_of count (back seats tx seat at i) + count_at count (taken seats tx i))
         ∙ nothing (all_of count seats)
+
+-- entries in order: the first that is prepared or decided
+pub unfinished-entries : (es : List (ℕ × Seat)) → IsStrictlySortedBy nat_cmp (keys_of es) → first_bound (phases_in es) ≡ unfinished_of (maps.from_entries es)
+unfolding unfinished_of
+unfinished-entries es asc = ap (λ (xs : List (ℕ × Seat)). first_bound (phases_in xs)) (sym (entries-of nat_cmp_total es asc))

@@ -1,9 +1,10 @@
 -- What contracts see of the transactions that have not ended.
-use Rattle.std.specs.Prelude.{ℕ, ◌+◌, List, [], ◌∷◌, length, Option, Some, None}
+use Rattle.std.specs.Prelude.{ℕ, ◌+◌, if◌then◌else◌, List, [], ◌∷◌, length, map, Option, Some, None}
 use Rattle.std.specs.FinMap as maps
 use Rattle.std.specs.Ordering.{nat_cmp}
 use Rattle.dl_base.specs.declared.step.Phase.{Phase}
 use Rattle.dl_base.specs.declared.step.Phase.TheVariants as phases
+use Rattle.meaning_system.specs.State.{is_active}
 use Rattle.sys_seats.specs.declared.seat.Seat.{Seat}
 use Rattle.sys_seats.specs.declared.seat.SeatClaim.{SeatClaim}
 use Rattle.sys_seats.specs.declared.seat.Stage.{Stage}
@@ -59,3 +60,15 @@ with_claim seats tx claim (Some seat) = maps.insert seats tx (record { claim = c
 abbrev pub count_at : (Seat → ℕ) → Option Seat → ℕ
 count_at count None = 0
 count_at count (Some seat) = count seat
+
+-- the number of the first that is prepared or decided
+
+abbrev pub first_bound : List (ℕ × Phase) → Option ℕ
+first_bound [] = None
+first_bound (e ∷ es) = if is_active e.1 then first_bound es else Some e.0
+
+abbrev pub phases_in : List (ℕ × Seat) → List (ℕ × Phase)
+phases_in es = map (λ e. (e.0, phase_of e.1.stage)) es
+
+unfoldable pub unfinished_of : Seated → Option ℕ
+unfinished_of seats = first_bound (phases_in (maps.entries seats))

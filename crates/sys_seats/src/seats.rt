@@ -4,7 +4,8 @@ ghost use Rattle.std.specs.BTreeMap.{IsOrdered, get};
 ghost use Rattle.std.specs.FinMap as maps;
 ghost use Rattle.std.specs.Option.{option_copied, option_map};
 ghost use Rattle.std.specs.Ordering.{is_eq, nat_cmp};
-ghost use Rattle.sys_seats.specs.Seats.{all_of, gives_of, sum_of, votes_of, with_claim, with_stage};
+ghost use Rattle.meaning_system.specs.State.{is_active};
+ghost use Rattle.sys_seats.specs.Seats.{all_of, first_bound, gives_of, phase_of, phases_in, sum_of, unfinished_of, votes_of, with_claim, with_stage};
 ghost use Rattle.sys_seats.specs.declared.seat.Seat as kept;
 
 use crate::seat::{Seat, SeatClaim, Stage};
@@ -97,6 +98,14 @@ impl Seats {
     {
         gives_in(&self.entries)
     }
+
+    /// The least number of a transaction that is prepared or decided; None where each one is active. It takes no memory, and costs a look
+    /// at each transaction.
+    pub fn unfinished(&self) -> Option<u64>
+        ensures { result ≡ unfinished_of self.now }
+    {
+        first_unfinished(&self.entries)
+    }
 }
 
 // One transaction more, in place of what is kept of it.
@@ -180,5 +189,27 @@ fn given_by(seat: &Seat) -> u64
     match &seat.stage {
         Stage::Active => 0,
         Stage::Prepared(_) | Stage::Decided(_) => seat.claim.gives.len() as u64,
+    }
+}
+
+// The number of the first transaction that is not active.
+fn first_unfinished(entries: &BTreeMap<u64, Seat>) -> Option<u64>
+    ensures first { result ≡ first_bound (phases_in entries.now.entries) }
+    ensures ordered { IsOrdered nat_cmp entries.now }
+{
+    for (tx, seat) in entries.iter() {
+        if !is_active(seat) {
+            return Some(*tx);
+        }
+    }
+    None
+}
+
+fn is_active(seat: &Seat) -> bool
+    ensures { result ≡ is_active (phase_of seat.now.stage) }
+{
+    match &seat.stage {
+        Stage::Active => true,
+        Stage::Prepared(_) | Stage::Decided(_) => false,
     }
 }
