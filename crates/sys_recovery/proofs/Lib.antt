@@ -1,2 +1,5 @@
 pub mod Reading
+pub mod Holding
+pub mod Restoring
+pub mod Shapes
 pub mod Stopping

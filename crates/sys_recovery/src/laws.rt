@@ -1,8 +1,10 @@
 // What a crash leaves recovers. The functions do nothing: they carry laws.
-ghost use Rattle.std.specs.Prelude.{◌≡◌, ◌+◌, ◌<◌, ◌^◌, ◌∷◌, ◌++◌, ℕ, List, Some};
+ghost use Rattle.std.specs.Prelude.{◌≡◌, ◌+◌, ◌<◌, ◌^◌, ◌∷◌, ◌++◌, ℕ, List, Some, true};
 ghost use Rattle.dl_areas.specs.Lists.{HasLists, Lists, puts};
 ghost use Rattle.dl_base.specs.Outside.{CrashState};
 ghost use Rattle.dl_base.specs.declared.step.Step as asked;
+ghost use Rattle.dl_base.specs.declared.step.Step.TheVariants as steps;
+ghost use Rattle.dl_base.specs.declared.step.Target as aims;
 ghost use Rattle.fm_manager.specs.Managed.{AreSpelled, as_writes};
 ghost use Rattle.meaning_areas.specs.Areas.{AreasStand};
 ghost use Rattle.meaning_areas.specs.Lists.{Folds, Written, folds_on};
@@ -13,7 +15,7 @@ ghost use Rattle.meaning_system.specs.State.{State, stored};
 ghost use Rattle.meaning_system.specs.Writes.{opening, writes};
 ghost use Rattle.sys_opening.specs.Begun.{AreFound, IsOfOpening};
 ghost use Rattle.sys_opening.specs.Owned.{AreFolded};
-ghost use Rattle.sys_recovery.specs.Left.{EveryImageStands, IsShort, areas_of};
+ghost use Rattle.sys_recovery.specs.Left.{EveryImageStands, IsAtomic, areas_of, has_commit, left_by};
 
 use dl_areas::an_opening_finds_the_lists_of_its_begin;
 use dl_base::Bench;
@@ -24,6 +26,7 @@ use dl_codec::{
 use meaning_areas::lists_stand_for_their_core;
 use meaning_history::{each_step_leads_on, what_lists_stand_for_has_a_past};
 use meaning_opening::{a_finish_goes_on, an_opening_leads_to_the_start};
+use meaning_restore::restores_go_on_with_the_history;
 use meaning_system::{a_state_and_its_core_have_one_stored_part, steps_keep_tables_fitting};
 
 /// WHAT IS WRITTEN IS READ. Records that have a spelling are read again from the lists behind them; and areas with lists that stand for
@@ -39,18 +42,21 @@ pub fn what_is_written_is_read()
     rows_records_have_one_spelling();
 }
 
-/// A STEP THAT IS STOPPED. The lists stand for the state before a step as long as a record of it is not there, wherever it was stopped, and
-/// for the state behind it once all are there.
+/// A STEP THAT IS STOPPED. As long as a record of a step is not there, wherever it was stopped, the lists stand for the state before it,
+/// or for the state behind it if its commit is there: so a restore is done with its commit. Once all are there they stand for the
+/// state behind it. It is said of each step but Resolve. No step but a restore has records behind its commit.
 pub fn stopped_steps_stand()
     ensures before { (first : ℕ) (f : Folds) (s : State) → AreSound first f s → IsStand f (stored s) }
-    ensures stopped { (first : ℕ) (f : Folds) (s : State) (x : asked.Step) → AreSound first f s → s.drawn + 1 < 2 ^ 32 → IsShort x → (front rest : List Written) (w : Written) → front ++ w ∷ rest ≡ writes s x
-        → (later : Folds) × (folds_on (Some f) front ≡ Some later) × IsStand later (stored s) }
-    ensures whole { (first : ℕ) (f : Folds) (s : State) (x : asked.Step) → AreSound first f s → s.drawn + 1 < 2 ^ 32 → IsShort x
+    ensures stopped { (first : ℕ) (f : Folds) (s : State) (x : asked.Step) → AreSound first f s → s.drawn + 1 < 2 ^ 32 → IsAtomic x → (front rest : List Written) (w : Written) → front ++ w ∷ rest ≡ writes s x
+        → (later : Folds) × (folds_on (Some f) front ≡ Some later) × IsStand later (stored (left_by s x front)) }
+    ensures whole { (first : ℕ) (f : Folds) (s : State) (x : asked.Step) → AreSound first f s → s.drawn + 1 < 2 ^ 32 → IsAtomic x
         → (later : Folds) × (folds_on (Some f) (writes s x) ≡ Some later) × IsStand later (stored (step s x).1) }
+    ensures commits { (s : State) (x : asked.Step) (front rest : List Written) (w : Written) → front ++ w ∷ rest ≡ writes s x → has_commit front ≡ true → (t : aims.Target) × (x ≡ steps.Restore t) }
 {
     a_state_and_its_core_have_one_stored_part();
     lists_stand_for_their_core();
     each_step_leads_on();
+    restores_go_on_with_the_history();
     a_finish_goes_on();
     steps_keep_tables_fitting();
 }
