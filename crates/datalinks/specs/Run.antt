@@ -59,7 +59,8 @@ lists_behind run = puts (as_writes (opening run.folds)) run.lists
 abbrev pub OpeningFits : Begun → Type 0
 OpeningFits run = full_in (journals_with run.given.limit run.lists) (as_writes (opening run.folds)) ≡ None
 
--- A MOMENT: one of the opening, or one of the run behind it
+-- A MOMENT: one of the opening, or one of the run behind it, which recovers to the state behind some turns: those whose records are all there,
+-- and the next one too once the commit of its restore is
 abbrev pub IsInside : Begun → Outside → CrashState → Type 0
 IsInside run o p = IsOfOpening run.lists (opening run.folds) o p ⊎ (OpeningFits run × IsInRun (journals_behind run) (lists_behind run) (run_of run) o.told p)
 

@@ -47,7 +47,8 @@ pub fn single<S: Source, B: Bench>(
 
     // THE HEADLINE. However it ends, a crash at any moment, and after it, leaves in the areas what they had, the records of the opening and of
     // some of the turns, in their order, and the first of those of the next, all of which fit, and nothing else; the areas recover to the state
-    // behind those turns; and what was told is not behind them nor ahead of the next. Or it is a moment of the opening, and nothing is told.
+    // behind those turns, or, once the commit of a restore is among those first ones, to the state behind that turn; and what was told is not
+    // behind those turns nor ahead of the next. Or it is a moment of the opening, and nothing is told.
     ensures history { (run : Begun) → Begins words.now (S.rest source.old) (B.outside bench) run
         → AtEveryMoment (IsInside run (B.outside bench)) (B.outside bench) (B.outside result.1) }
 

@@ -1,10 +1,10 @@
 -- Who has acted, has acted.
-use Rattle.std.proofs.Common.{◌≡◌, ℕ, ◌||◌, Bool, true, false, cond, List, [], ◌∷◌, ◌++◌, length, nat_le, bytes_eq, Option, Some, None, refl, sym, ap, ◌∙◌}
+use Rattle.std.proofs.Common.{◌≡◌, ℕ, ◌||◌, Bool, true, false, cond, List, [], ◌∷◌, ◌++◌, length, nat_le, bytes_eq, Option, Some, None, refl, ap, ◌∙◌}
 use Rattle.std.proofs.lemmas.List.Folds.{list_any-append}
 use Rattle.std.proofs.lemmas.Slice.Eq.{bytes_eq-Decides}
 use Rattle.std.specs.List.{list_any}
 use Rattle.dl_base.specs.Limits.{most_actors}
-use Rattle.meaning_script.specs.Actors.{is_extra, is_known, with_actor}
+use Rattle.meaning_script.specs.Actors.{is_known, with_actor}
 
 or-true : (a b : Bool) → a ≡ true → (a || b) ≡ true
 or-true a b is = ap (λ c. c || b) is

@@ -1,16 +1,18 @@
 -- Worked rows: runs of scripts of one line or two.
-use Rattle.std.proofs.Common.{◌≡◌, ℕ, ◌+◌, ◌-◌, ◌^◌, min, List, [], ◌∷◌, ◌++◌, codes, Some, None, refl}
+use Rattle.std.proofs.Common.{◌≡◌, ◌+◌, ◌-◌, ◌^◌, min, List, [], ◌∷◌, ◌++◌, codes, map, Some, None, refl, ap}
 use Rattle.dl_base.specs.declared.answer.Answer.TheVariants as answers
 use Rattle.dl_base.specs.declared.answer.Refusal.TheVariants as refusals
 use Rattle.dl_base.specs.declared.file.FileCmd.{FileCmd}
 use Rattle.dl_base.specs.declared.step.Step.TheVariants as steps
+use Rattle.dl_base.specs.declared.step.Target.{Target}
+use Rattle.dl_base.specs.declared.value.LinkRow.{LinkRow}
 use Rattle.fs_command.specs.declared.line.FileLine.TheVariants as files
-use Rattle.meaning_run.specs.Running.{IsAtEnd, Read, after, first_run, next_step, turn, comes_to, written}
-use Rattle.meaning_script.specs.Expansion.{expansion, file, system}
+use Rattle.meaning_run.specs.Running.{IsAtEnd, Read, after, comes_to, first_run, next_step, step_in, turn, turned, written}
+use Rattle.meaning_script.specs.Expansion.{answered, archive, archive_first, backup, backup_from, does, expansion, file, system}
 use Rattle.meaning_script.specs.Printed.{line_text}
 use Rattle.meaning_script.specs.declared.kind.Line.TheVariants as lines
 use Rattle.meaning_script.specs.declared.kind.Order.TheVariants as orders
-use Rattle.meaning_system.specs.Machine.{step}
+use Rattle.meaning_system.specs.Machine.{pending, step}
 use Rattle.meaning_system.specs.State.{State}
 use Rattle.meaning_system.specs.Writes.{writes}
 
@@ -20,8 +22,17 @@ bad = record { actor = None; line = lines.Bad (refusals.BadLine 3) }
 abbrev pub blank : Read
 blank = record { actor = None; line = lines.Nothing }
 
-abbrev pub archive : Read
-archive = record { actor = None; line = lines.System orders.Archive }
+abbrev pub resolve : Read
+resolve = record { actor = None; line = lines.System orders.Resolve }
+
+abbrev pub archive_all : Read
+archive_all = record { actor = None; line = lines.System orders.Archive }
+
+abbrev pub backup_all : Read
+backup_all = record { actor = None; line = lines.System orders.Backup }
+
+abbrev pub restore_to : Target → Read
+restore_to target = record { actor = None; line = lines.System (orders.Restore target) }
 
 abbrev pub tick : Read
 tick = record { actor = None; line = lines.System (orders.Tick 60) }
@@ -35,13 +46,40 @@ unfolding turn comes_to expansion
 row-bad s = refl
 
 -- what is not built takes no step
-pub row-archive : (s : State) → next_step (first_run (archive ∷ []) s) ≡ None
+pub row-resolve : (s : State) → next_step (first_run (resolve ∷ []) s) ≡ None
 unfolding comes_to
-row-archive s = refl
+row-resolve s = refl
 
-pub row-not-built : (s : State) → (after 1 (first_run (archive ∷ []) s)).told ≡ line_text [] 1 (answers.Refused refusals.NotBuilt)
+pub row-not-built : (s : State) → (after 1 (first_run (resolve ∷ []) s)).told ≡ line_text [] 1 (answers.Refused refusals.NotBuilt)
 unfolding turn comes_to
 row-not-built s = refl
+
+-- the first link whose copy is pending is archived
+pub row-archive : (s : State) (l : LinkRow) (ls : List LinkRow) → pending s ≡ l ∷ ls → next_step (first_run (archive_all ∷ []) s) ≡ Some (steps.Archive l.link)
+unfolding comes_to expansion system archive
+row-archive s l ls is = ap (λ (waiting : List LinkRow). step_in (archive_first (map (λ (w : LinkRow). w.link) waiting) (answered (answers.Archived 0)))) is
+
+pub row-backup : (s : State) (l : LinkRow) (ls : List LinkRow) → pending s ≡ l ∷ ls → next_step (first_run (backup_all ∷ []) s) ≡ Some (steps.Archive l.link)
+unfolding comes_to expansion system backup backup_from
+row-backup s l ls is = ap (λ (waiting : List LinkRow). step_in (archive_first (map (λ (w : LinkRow). w.link) waiting) (does steps.Backup))) is
+
+-- where none is, the number of those that were is told, and the tables are backed up
+pub row-archived : (s : State) → pending s ≡ [] → (after 1 (first_run (archive_all ∷ []) s)).told ≡ line_text [] 1 (answers.Archived 0)
+unfolding turn comes_to expansion system archive
+row-archived s none = ap (λ (waiting : List LinkRow). (turned (first_run (archive_all ∷ []) s) archive_all [] (archive_first (map (λ (w : LinkRow). w.link) waiting) (answered (answers.Archived 0)))).told) none
+
+pub row-backed-up : (s : State) → pending s ≡ [] → next_step (first_run (backup_all ∷ []) s) ≡ Some steps.Backup
+unfolding comes_to expansion system backup backup_from
+row-backed-up s none = ap (λ (waiting : List LinkRow). step_in (archive_first (map (λ (w : LinkRow). w.link) waiting) (does steps.Backup))) none
+
+-- a restore takes one step, and then its answer is told
+pub row-restore : (s : State) (target : Target) → next_step (first_run (restore_to target ∷ []) s) ≡ Some (steps.Restore target)
+unfolding comes_to expansion system
+row-restore s target = refl
+
+pub row-restored : (s : State) (target : Target) → (after 2 (first_run (restore_to target ∷ []) s)).told ≡ line_text [] 1 (step s (steps.Restore target)).0
+unfolding turn comes_to expansion system
+row-restored s target = refl
 
 -- a tick takes its step, which has no record, and then it is told
 pub row-tick : (s : State) → next_step (first_run (tick ∷ []) s) ≡ Some (steps.Tick 60)

@@ -1,31 +1,28 @@
 -- A line takes few steps.
 use Rattle.std.proofs.Common.{◌≡◌, ◌⊎◌, inl, inr, ⊎_elim, ℕ, zero, suc, ◌+◌, ◌-◌, ◌<◌, ◌≤◌, Bool, true, false, cond, List, [], ◌∷◌, ◌++◌, length, slice_get, position, Option, Some, None, refl, sym, ap, ◌∙◌, subst, arith, length-append}
 use Rattle.dl_base.specs.declared.answer.Answer.{Answer}
-use Rattle.dl_base.specs.declared.answer.Answer.TheVariants as answers
 use Rattle.dl_base.specs.declared.statement.Stmt.{Stmt}
 use Rattle.dl_base.specs.declared.statement.Stmt.TheVariants as statements
 use Rattle.dl_base.specs.declared.step.Phase.{Phase}
 use Rattle.dl_base.specs.declared.step.Phase.TheVariants as phases
 use Rattle.dl_base.specs.declared.step.Step.{Step}
 use Rattle.dl_base.specs.declared.step.Step.TheVariants as steps
-use Rattle.dl_base.specs.declared.value.LinkNo.{LinkNo}
 use Rattle.fs_command.specs.declared.line.FileLine.{FileLine}
 use Rattle.fs_command.specs.declared.line.FileLine.TheVariants as files
 use Rattle.meaning_areas.proofs.Tables.{some_same}
 use Rattle.meaning_run.proofs.Acting.{acted}
 use Rattle.meaning_run.proofs.Lowering.{Lowers, commit-lowers, prepare-refused, weight, weight_in}
 use Rattle.meaning_run.specs.Built.{is_built}
-use Rattle.meaning_run.specs.Running.{Read, Run, actor_state, after, by_kind, by_right, comes_to, met, next_step, number_of, pending_links, phase_in, step_in, step_on, stepped, turn, turn_on, turned}
-use Rattle.meaning_script.specs.Actors.{is_extra, with_actor}
+use Rattle.meaning_run.specs.Running.{Read, Run, actor_state, after, by_kind, by_right, comes_to, met, next_step, number_of, pending_links, phase_in, step_in, step_on, stepped, stores_copies, turn, turn_on, turned, StoresNone}
+use Rattle.meaning_script.specs.Actors.{is_extra}
 use Rattle.meaning_script.specs.Expansion.{Then, does, given, answered, silent, alone, commit, commit_behind, commit_by, expansion, file, first_step, goes_on, is_begun, is_commit, is_refused, last_of, one, session, statement, step_from, system, told_commit}
 use Rattle.meaning_script.specs.declared.kind.Line.{Line}
 use Rattle.meaning_script.specs.declared.kind.Line.TheVariants as lines
 use Rattle.meaning_script.specs.declared.kind.Order.TheVariants as orders
-use Rattle.meaning_script.specs.declared.kind.Sentence.{Sentence}
 use Rattle.meaning_script.specs.declared.kind.Sentence.TheVariants as sentences
 use Rattle.meaning_script.specs.declared.next.ActorState.{ActorState}
 use Rattle.meaning_system.specs.Machine.{step}
-use Rattle.meaning_system.specs.State.{State, Txn, txn_of}
+use Rattle.meaning_system.specs.State.{State, txn_of}
 
 none_some : {A : Type 0} {X : Type 0} (x : A) → None ≡ Some x → X
 none_some x e = absurd cc
@@ -170,31 +167,31 @@ IsCommitLine r (Some name) = IsInCommit r.state (number_of r name) r.answers
 abbrev pub IsInLine : Run → Line → Type 0
 IsInLine r l = IsCommitLine r (committing l)
 
-kind-few : (r : Run) (l : Line) (x : Step) → IsInLine r l → is_built l ≡ true → step_in (expansion l (actor_state r l) r.answers (pending_links r.state)) ≡ Some x → length r.answers < 5
+kind-few : (r : Run) (l : Line) (x : Step) → IsInLine r l → is_built l ≡ true → stores_copies l ≡ false → step_in (expansion l (actor_state r l) r.answers (pending_links r.state)) ≡ Some x → length r.answers < 5
 unfolding expansion session system commit
-kind-few r lines.Nothing x now built next = none_some x next
-kind-few r (lines.Bad why) x now built next = none_some x next
-kind-few r (lines.System (orders.Tick seconds)) x now built next = one-few (steps.Tick seconds) x r.answers next
-kind-few r (lines.System orders.Archive) x now built next = absurd cc
-kind-few r (lines.System orders.Backup) x now built next = absurd cc
-kind-few r (lines.System (orders.Restore target)) x now built next = absurd cc
-kind-few r (lines.System orders.CrashManager) x now built next = absurd cc
-kind-few r (lines.System orders.CrashDatabase) x now built next = absurd cc
-kind-few r (lines.System orders.CrashBoth) x now built next = absurd cc
-kind-few r (lines.System orders.Resolve) x now built next = absurd cc
-kind-few r (lines.File l) x now built next = file-few (actor_state r (lines.File l)).last l x r.answers next
-kind-few r (lines.Session name (sentences.Sql statements.Begin)) x now built next = one-few (steps.Begin (number_of r name)) x r.answers next
-kind-few r (lines.Session name (sentences.Sql statements.Commit)) x now built next = commit-few r.state (number_of r name) x r.answers now next
-kind-few r (lines.Session name (sentences.Sql statements.Rollback)) x now built next = one-few (steps.Rollback (number_of r name)) x r.answers next
-kind-few r (lines.Session name (sentences.Sql (statements.CreateTable t cs))) x now built next = statement-few (actor_state r (lines.Session name (sentences.Sql (statements.CreateTable t cs)))) (statements.CreateTable t cs) x r.answers next
-kind-few r (lines.Session name (sentences.Sql (statements.DropTable t))) x now built next = statement-few (actor_state r (lines.Session name (sentences.Sql (statements.DropTable t)))) (statements.DropTable t) x r.answers next
-kind-few r (lines.Session name (sentences.Sql (statements.Insert t cs vs))) x now built next = statement-few (actor_state r (lines.Session name (sentences.Sql (statements.Insert t cs vs)))) (statements.Insert t cs vs) x r.answers next
-kind-few r (lines.Session name (sentences.Sql (statements.Update t cs e))) x now built next = statement-few (actor_state r (lines.Session name (sentences.Sql (statements.Update t cs e)))) (statements.Update t cs e) x r.answers next
-kind-few r (lines.Session name (sentences.Sql (statements.Delete t e))) x now built next = statement-few (actor_state r (lines.Session name (sentences.Sql (statements.Delete t e)))) (statements.Delete t e) x r.answers next
-kind-few r (lines.Session name (sentences.Sql (statements.Select q))) x now built next = statement-few (actor_state r (lines.Session name (sentences.Sql (statements.Select q)))) (statements.Select q) x r.answers next
-kind-few r (lines.Session name sentences.Prepare) x now built next = one-few (steps.Prepare (number_of r name)) x r.answers next
-kind-few r (lines.Session name sentences.Decide) x now built next = one-few (steps.Decide (number_of r name)) x r.answers next
-kind-few r (lines.Session name sentences.Finish) x now built next = one-few (steps.Finish (number_of r name)) x r.answers next
+kind-few r lines.Nothing x now built short next = none_some x next
+kind-few r (lines.Bad why) x now built short next = none_some x next
+kind-few r (lines.System (orders.Tick seconds)) x now built short next = one-few (steps.Tick seconds) x r.answers next
+kind-few r (lines.System orders.Archive) x now built short next = absurd cc
+kind-few r (lines.System orders.Backup) x now built short next = absurd cc
+kind-few r (lines.System (orders.Restore target)) x now built short next = one-few (steps.Restore target) x r.answers next
+kind-few r (lines.System orders.CrashManager) x now built short next = absurd cc
+kind-few r (lines.System orders.CrashDatabase) x now built short next = absurd cc
+kind-few r (lines.System orders.CrashBoth) x now built short next = absurd cc
+kind-few r (lines.System orders.Resolve) x now built short next = absurd cc
+kind-few r (lines.File l) x now built short next = file-few (actor_state r (lines.File l)).last l x r.answers next
+kind-few r (lines.Session name (sentences.Sql statements.Begin)) x now built short next = one-few (steps.Begin (number_of r name)) x r.answers next
+kind-few r (lines.Session name (sentences.Sql statements.Commit)) x now built short next = commit-few r.state (number_of r name) x r.answers now next
+kind-few r (lines.Session name (sentences.Sql statements.Rollback)) x now built short next = one-few (steps.Rollback (number_of r name)) x r.answers next
+kind-few r (lines.Session name (sentences.Sql (statements.CreateTable t cs))) x now built short next = statement-few (actor_state r (lines.Session name (sentences.Sql (statements.CreateTable t cs)))) (statements.CreateTable t cs) x r.answers next
+kind-few r (lines.Session name (sentences.Sql (statements.DropTable t))) x now built short next = statement-few (actor_state r (lines.Session name (sentences.Sql (statements.DropTable t)))) (statements.DropTable t) x r.answers next
+kind-few r (lines.Session name (sentences.Sql (statements.Insert t cs vs))) x now built short next = statement-few (actor_state r (lines.Session name (sentences.Sql (statements.Insert t cs vs)))) (statements.Insert t cs vs) x r.answers next
+kind-few r (lines.Session name (sentences.Sql (statements.Update t cs e))) x now built short next = statement-few (actor_state r (lines.Session name (sentences.Sql (statements.Update t cs e)))) (statements.Update t cs e) x r.answers next
+kind-few r (lines.Session name (sentences.Sql (statements.Delete t e))) x now built short next = statement-few (actor_state r (lines.Session name (sentences.Sql (statements.Delete t e)))) (statements.Delete t e) x r.answers next
+kind-few r (lines.Session name (sentences.Sql (statements.Select q))) x now built short next = statement-few (actor_state r (lines.Session name (sentences.Sql (statements.Select q)))) (statements.Select q) x r.answers next
+kind-few r (lines.Session name sentences.Prepare) x now built short next = one-few (steps.Prepare (number_of r name)) x r.answers next
+kind-few r (lines.Session name sentences.Decide) x now built short next = one-few (steps.Decide (number_of r name)) x r.answers next
+kind-few r (lines.Session name sentences.Finish) x now built short next = one-few (steps.Finish (number_of r name)) x r.answers next
 
 kind-more : (r : Run) (l : Line) (x : Step) → IsInLine r l → step_in (expansion l (actor_state r l) r.answers (pending_links r.state)) ≡ Some x → IsInLine (stepped r x) l
 unfolding expansion session commit
@@ -285,16 +282,16 @@ first-holds r none = inr (refl, by r.lines)
     by [] = tt
     by (l ∷ more) = first-line (met r l.actor) (committing l.line) none
 
-few-now : (r : Run) (x : Step) → (now : List Read) → HoldsOn r now → step_on r now ≡ Some x → length r.answers < 5
+few-now : (r : Run) (x : Step) → (now : List Read) → StoresNone now → HoldsOn r now → step_on r now ≡ Some x → length r.answers < 5
 unfolding comes_to
-few-now r x [] on next = none_some x next
-few-now r x (l ∷ more) on next =
+few-now r x [] short on next = none_some x next
+few-now r x (l ∷ more) short on next =
     let kind = its-kind (met r l.actor) l.line (is_extra r.actors l.actor) x next in
-    kind-few (met r l.actor) l.line x on kind.0 kind.1
+    kind-few (met r l.actor) l.line x on kind.0 short kind.1
 
-pub few-steps : (n : ℕ) (r : Run) (x : Step) → r.answers ≡ [] → (after n r).lines ≡ r.lines → next_step (after n r) ≡ Some x → length (after n r).answers < 5
-few-steps n r x none same next = by (after-holds n r.lines r (first-holds r none))
+pub few-steps : (n : ℕ) (r : Run) (x : Step) → r.answers ≡ [] → StoresNone r.lines → (after n r).lines ≡ r.lines → next_step (after n r) ≡ Some x → length (after n r).answers < 5
+few-steps n r x none short same next = by (after-holds n r.lines r (first-holds r none))
   where
     by : Holds r.lines (after n r) → length (after n r).answers < 5
     by (inl less) = let len : length (after n r).lines ≡ length r.lines = ap length same in absurd (lt-itself (length (after n r).lines) (length r.lines) less len)
-    by (inr (is, on)) = few-now (after n r) x (after n r).lines on next
+    by (inr (is, on)) = few-now (after n r) x (after n r).lines (subst StoresNone (sym same) short) on next

@@ -1,5 +1,5 @@
 -- Turns follow one another.
-use Rattle.std.proofs.Common.{◌≡◌, ℕ, zero, suc, ◌+◌, List, ◌++◌, refl, sym, ap, ◌∙◌, arith}
+use Rattle.std.proofs.Common.{◌≡◌, ℕ, zero, suc, ◌+◌, List, ◌++◌, sym, ap, ◌∙◌, arith}
 use Rattle.std.proofs.lemmas.List.{append_assoc}
 use Rattle.meaning_areas.specs.Lists.{Written}
 use Rattle.meaning_run.specs.Running.{Run, after, next_step, step_writes, turn, written}

@@ -1,6 +1,6 @@
 -- THE RUN OF A SCRIPT over the machine, turn by turn: in each turn the machine takes one step for the first line that is not told yet,
 -- or that line is told.
-use Rattle.std.specs.Prelude.{◌≡◌, ℕ, zero, suc, ◌+◌, Bool, true, false, if◌then◌else◌, List, [], ◌∷◌, ◌++◌, map, slice_get, Option, Some, None}
+use Rattle.std.specs.Prelude.{◌≡◌, ℕ, zero, suc, ◌+◌, Bool, true, false, List, [], ◌∷◌, ◌++◌, map, slice_get, Option, Some, None}
 use Rattle.std.specs.FinMap as maps
 use Rattle.std.specs.Option.{unwrap_or}
 use Rattle.std.specs.Ordering.{nat_cmp}
@@ -14,7 +14,6 @@ use Rattle.dl_base.specs.declared.value.LinkNo.{LinkNo}
 use Rattle.dl_base.specs.declared.value.Row.{Row}
 use Rattle.dl_base.specs.declared.value.Value.{Value}
 use Rattle.dl_base.specs.declared.value.Value.TheVariants as values
-use Rattle.fs_command.specs.declared.line.FileLine.{FileLine}
 use Rattle.fs_command.specs.declared.line.FileLine.TheVariants as files
 use Rattle.meaning_areas.specs.Lists.{Written}
 use Rattle.meaning_run.specs.Built.{is_built}
@@ -23,6 +22,7 @@ use Rattle.meaning_script.specs.Expansion.{Then, answered, does, expansion, give
 use Rattle.meaning_script.specs.Printed.{line_text}
 use Rattle.meaning_script.specs.declared.kind.Line.{Line}
 use Rattle.meaning_script.specs.declared.kind.Line.TheVariants as lines
+use Rattle.meaning_script.specs.declared.kind.Order.TheVariants as orders
 use Rattle.meaning_script.specs.declared.next.ActorState.{ActorState}
 use Rattle.meaning_system.specs.Machine.{pending, step}
 use Rattle.meaning_system.specs.State.{State, Txn, txn_of}
@@ -181,6 +181,17 @@ step_writes s (Some x) = writes s x
 abbrev pub written : ℕ → Run → List Written
 written zero r = []
 written (suc n) r = step_writes r.state (next_step r) ++ written n (turn r)
+
+-- a line that takes a step for each link whose copy is pending
+abbrev pub stores_copies : Line → Bool
+stores_copies (lines.System orders.Archive) = true
+stores_copies (lines.System orders.Backup) = true
+stores_copies _ = false
+
+-- the first line, if there is one, is none of these
+abbrev pub StoresNone : List Read → Type 0
+StoresNone [] = Unit {0}
+StoresNone (l ∷ more) = stores_copies l.line ≡ false
 
 -- EACH LINE IS TOLD
 abbrev pub IsAtEnd : Run → Type 0

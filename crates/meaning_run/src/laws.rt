@@ -1,7 +1,7 @@
 // What runs of scripts are. The functions do nothing: they carry laws.
 ghost use Rattle.std.specs.Prelude.{◌≡◌, ◌+◌, ◌<◌, ◌++◌, ℕ, List, [], ◌∷◌, Some, length};
 ghost use Rattle.dl_base.specs.declared.step.Step as asked;
-ghost use Rattle.meaning_run.specs.Running.{AreRead, Read, Run, after, next_step, turn, written};
+ghost use Rattle.meaning_run.specs.Running.{AreRead, Read, Run, StoresNone, after, next_step, turn, written};
 
 /// The lines of each script are read in one way, so each script has one run from a state.
 pub fn scripts_have_one_run()
@@ -18,7 +18,8 @@ pub fn turns_follow_one_another()
     ensures next { (n : ℕ) (r : Run) → after (n + 1) r ≡ turn (after n r) }
 {}
 
-/// A line takes at most five steps: so many are those of a statement outside a transaction, and a COMMIT takes at most three.
+/// A line takes at most five steps: so many are those of a statement outside a transaction, and a COMMIT takes at most three. Not so
+/// `! archive` and `! backup`, which take one for each link whose copy is pending.
 pub fn lines_take_few_steps()
-    ensures { (n : ℕ) (r : Run) (x : asked.Step) → r.answers ≡ [] → (after n r).lines ≡ r.lines → next_step (after n r) ≡ Some x → length (after n r).answers < 5 }
+    ensures { (n : ℕ) (r : Run) (x : asked.Step) → r.answers ≡ [] → StoresNone r.lines → (after n r).lines ≡ r.lines → next_step (after n r) ≡ Some x → length (after n r).answers < 5 }
 {}

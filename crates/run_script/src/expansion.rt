@@ -27,7 +27,7 @@ pub fn expand<'a>(
     line: &'a Line,
     actor: &ActorState,
     answers: &List<Answer>,
-    pending: &List<LinkNo>,
+    pending: &[LinkNo],
 ) -> Result<Next<'a>, Memory>
     requires { IsRead line.now }
     ensures exact { IfOk result (λ n. meant n ≡ expansion line.entry.now actor.now answers.now pending.now) }
@@ -36,7 +36,7 @@ pub fn expand<'a>(
         Line::Nothing => Ok(Next::Nothing),
         Line::Session(_, sentence) => Ok(session(actor, sentence, answers.as_slice())),
         Line::File(line) => file(alloc, actor, line, answers.as_slice()),
-        Line::System(order) => Ok(system(*order, answers.as_slice(), pending.as_slice())),
+        Line::System(order) => Ok(system(*order, answers.as_slice(), pending)),
         Line::Bad(Refusal::BadLine(place)) => Ok(refused(Refusal::BadLine(*place))),
         Line::Bad(Refusal::Syntax(place)) => Ok(refused(Refusal::Syntax(*place))),
         Line::Bad(_) => Ok(Next::Nothing),

@@ -1,5 +1,5 @@
 -- What `$NAME` stands for, by the entries.
-use Rattle.std.proofs.Common.{◌≡◌, ℕ, List, sym, ◌∙◌}
+use Rattle.std.proofs.Common.{◌≡◌, ℕ, List}
 use Rattle.std.specs.BTreeMap.{is_at}
 use Rattle.std.specs.Cmp.{nat_cmp_total}
 use Rattle.std.specs.FinMap as maps

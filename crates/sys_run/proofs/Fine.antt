@@ -2,6 +2,7 @@
 use Rattle.std.proofs.Common.{◌≡◌, ℕ, Bool, true, false, cond, List, [], ◌∷◌, length, position, Option, Some, None, refl}
 use Rattle.db_txn.specs.Transaction.{is_plain}
 use Rattle.dl_base.specs.declared.answer.Answer.{Answer}
+use Rattle.dl_base.specs.declared.answer.Answer.TheVariants as answers
 use Rattle.dl_base.specs.declared.statement.Stmt.{Stmt}
 use Rattle.dl_base.specs.declared.statement.Stmt.TheVariants as statements
 use Rattle.dl_base.specs.declared.step.Phase.{Phase}
@@ -9,12 +10,11 @@ use Rattle.dl_base.specs.declared.step.Phase.TheVariants as phases
 use Rattle.dl_base.specs.declared.step.Step.{Step}
 use Rattle.dl_base.specs.declared.step.Step.TheVariants as steps
 use Rattle.dl_base.specs.declared.value.LinkNo.{LinkNo}
-use Rattle.fs_command.specs.Commands.{read_of_path}
 use Rattle.fs_command.specs.declared.line.FileLine.{FileLine}
 use Rattle.fs_command.specs.declared.line.FileLine.TheVariants as files
 use Rattle.meaning_run.specs.Built.{is_built}
-use Rattle.meaning_run.specs.Running.{Run, actor_state, number_of}
-use Rattle.meaning_script.specs.Expansion.{Then, does, given, answered, silent, alone, asked, behind_decide, behind_finish, behind_prepare, behind_statement, commit, commit_behind, commit_by, expansion, file, first_step, goes_on, is_alone, is_begun, is_commit, is_refused, last_of, one, read_of, session, statement, step_from, system, told_commit}
+use Rattle.meaning_run.specs.Running.{Run, actor_state, stores_copies}
+use Rattle.meaning_script.specs.Expansion.{Then, does, answered, alone, archive, archive_first, asked, backup, backup_behind, backup_by, backup_from, behind_decide, behind_prepare, behind_statement, commit, commit_behind, commit_by, expansion, file, first_step, goes_on, is_alone, is_archived, is_commit, is_refused, last_of, one, read_of, session, statement, step_from, system, told_commit}
 use Rattle.meaning_script.specs.declared.kind.Line.{Line}
 use Rattle.meaning_script.specs.declared.kind.Line.TheVariants as lines
 use Rattle.meaning_script.specs.declared.kind.Order.{Order}
@@ -23,7 +23,7 @@ use Rattle.meaning_script.specs.declared.kind.Sentence.{Sentence}
 use Rattle.meaning_script.specs.declared.kind.Sentence.TheVariants as sentences
 use Rattle.meaning_script.specs.declared.next.ActorState.{ActorState}
 use Rattle.meaning_script.specs.Actors.{sessions}
-use Rattle.sys_recovery.specs.Left.{IsShort}
+use Rattle.sys_recovery.specs.Left.{IsAtomic}
 use Rattle.sys_run.specs.Sessions.{IsSession, IsStepOf}
 use Rattle.sys_run.specs.Turning.{IsNamed}
 
@@ -124,18 +124,28 @@ fine-file count last (files.Command cmd) done = fine-one count (steps.File cmd) 
 fine-file count last (files.ReadOf user name) [] = fine-read count user name last
 fine-file count last (files.ReadOf user name) (a ∷ more) = tt
 
+-- a copy more, or the end
+fine-archive-first : (count : ℕ) (pending : List LinkNo) (end : Then) → Fine count end → Fine count (archive_first pending end)
+fine-archive-first count [] end fine = fine
+fine-archive-first count (l ∷ ls) end fine = tt
+
+fine-backup : (count : ℕ) (done : List Answer) (pending : List LinkNo) (o : Option Answer) → Fine count (backup_by done pending o)
+unfolding backup_from backup_behind
+fine-backup count done pending None = fine-archive-first count pending (does steps.Backup) tt
+fine-backup count done pending (Some last) = fine-cond count (is_archived last) _ _ (fine-archive-first count pending (does steps.Backup) tt) tt
+
 fine-system : (count : ℕ) (order : Order) (done : List Answer) (pending : List LinkNo) → is_built (lines.System order) ≡ true → Fine count (system order done pending)
-unfolding system
+unfolding system archive backup
 fine-system count (orders.Tick seconds) done pending built = fine-one count (steps.Tick seconds) done tt
-fine-system count orders.Archive done pending built = absurd cc
-fine-system count orders.Backup done pending built = absurd cc
-fine-system count (orders.Restore target) done pending built = absurd cc
+fine-system count orders.Archive done pending built = fine-archive-first count pending (answered (answers.Archived (length done))) tt
+fine-system count orders.Backup done pending built = fine-backup count done pending (last_of done)
+fine-system count (orders.Restore target) done pending built = fine-one count (steps.Restore target) done tt
 fine-system count orders.CrashManager done pending built = absurd cc
 fine-system count orders.CrashDatabase done pending built = absurd cc
 fine-system count orders.CrashBoth done pending built = absurd cc
 fine-system count orders.Resolve done pending built = absurd cc
 
--- a line that is built takes steps of its own session, a command, or one of the clock
+-- a line that is built takes steps of its own session, a command, those that store copies and tables, or one of the clock
 pub fine-line : (r : Run) (line : Line) (done : List Answer) (pending : List LinkNo) → is_built line ≡ true → IsNamed r line → Fine (length (sessions r.actors)) (expansion line (actor_state r line) done pending)
 unfolding expansion
 fine-line r lines.Nothing done pending built named = tt
@@ -144,40 +154,40 @@ fine-line r (lines.System order) done pending built named = fine-system (length 
 fine-line r (lines.File l) done pending built named = fine-file (length (sessions r.actors)) (actor_state r (lines.File l)).last l done
 fine-line r (lines.Session name s) done pending built named = fine-session (length (sessions r.actors)) (actor_state r (lines.Session name s)) named s done
 
--- such a line does not look at what is pending
+-- a line that stores no copies does not look at what is pending
 
-no-pending-system : (order : Order) (done : List Answer) (p q : List LinkNo) → is_built (lines.System order) ≡ true → system order done p ≡ system order done q
+no-pending-system : (order : Order) (done : List Answer) (p q : List LinkNo) → stores_copies (lines.System order) ≡ false → system order done p ≡ system order done q
 unfolding system
-no-pending-system (orders.Tick seconds) done p q built = refl
-no-pending-system orders.Archive done p q built = absurd cc
-no-pending-system orders.Backup done p q built = absurd cc
-no-pending-system (orders.Restore target) done p q built = absurd cc
-no-pending-system orders.CrashManager done p q built = absurd cc
-no-pending-system orders.CrashDatabase done p q built = absurd cc
-no-pending-system orders.CrashBoth done p q built = absurd cc
-no-pending-system orders.Resolve done p q built = absurd cc
+no-pending-system (orders.Tick seconds) done p q none = refl
+no-pending-system orders.Archive done p q none = absurd cc
+no-pending-system orders.Backup done p q none = absurd cc
+no-pending-system (orders.Restore target) done p q none = refl
+no-pending-system orders.CrashManager done p q none = refl
+no-pending-system orders.CrashDatabase done p q none = refl
+no-pending-system orders.CrashBoth done p q none = refl
+no-pending-system orders.Resolve done p q none = refl
 
-pub no-pending : (line : Line) (actor : ActorState) (done : List Answer) (p q : List LinkNo) → is_built line ≡ true → expansion line actor done p ≡ expansion line actor done q
+pub no-pending : (line : Line) (actor : ActorState) (done : List Answer) (p q : List LinkNo) → stores_copies line ≡ false → expansion line actor done p ≡ expansion line actor done q
 unfolding expansion
-no-pending lines.Nothing actor done p q built = refl
-no-pending (lines.Bad why) actor done p q built = refl
-no-pending (lines.System order) actor done p q built = no-pending-system order done p q built
-no-pending (lines.File l) actor done p q built = refl
-no-pending (lines.Session name s) actor done p q built = refl
+no-pending lines.Nothing actor done p q none = refl
+no-pending (lines.Bad why) actor done p q none = refl
+no-pending (lines.System order) actor done p q none = no-pending-system order done p q none
+no-pending (lines.File l) actor done p q none = refl
+no-pending (lines.Session name s) actor done p q none = refl
 
--- and its steps are short
-pub step-short : (count : ℕ) (x : Step) → IsStepOf count x → IsShort x
-step-short count (steps.Begin n) is = tt
-step-short count (steps.Statement n stmt) is = tt
-step-short count (steps.Prepare n) is = tt
-step-short count (steps.Decide n) is = tt
-step-short count (steps.Finish n) is = tt
-step-short count (steps.Rollback n) is = tt
-step-short count (steps.File cmd) is = tt
-step-short count (steps.Archive n) is = absurd is
-step-short count steps.Backup is = absurd is
-step-short count (steps.Restore t) is = absurd is
-step-short count (steps.Tick n) is = tt
-step-short count steps.CrashManager is = absurd is
-step-short count steps.CrashDatabase is = absurd is
-step-short count steps.Resolve is = absurd is
+-- the steps of a line that is built are done with their commit, or with their last record
+pub step-atomic : (count : ℕ) (x : Step) → IsStepOf count x → IsAtomic x
+step-atomic count (steps.Begin n) is = tt
+step-atomic count (steps.Statement n stmt) is = tt
+step-atomic count (steps.Prepare n) is = tt
+step-atomic count (steps.Decide n) is = tt
+step-atomic count (steps.Finish n) is = tt
+step-atomic count (steps.Rollback n) is = tt
+step-atomic count (steps.File cmd) is = tt
+step-atomic count (steps.Archive n) is = tt
+step-atomic count steps.Backup is = tt
+step-atomic count (steps.Restore t) is = tt
+step-atomic count (steps.Tick n) is = tt
+step-atomic count steps.CrashManager is = absurd is
+step-atomic count steps.CrashDatabase is = absurd is
+step-atomic count steps.Resolve is = absurd is

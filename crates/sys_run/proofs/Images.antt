@@ -6,6 +6,8 @@ use Rattle.dl_areas.specs.Lists.{AreKept, HasLists, Journals, Lists, Write, grow
 use Rattle.dl_areas.specs.Writing.{Does, LeavesPrefix, fitting, full_in, past_limit, refused, unless}
 use Rattle.dl_base.proofs.Moments.{moments_more}
 use Rattle.dl_base.specs.Outside.{AtEveryMoment, CrashState, Outside}
+use Rattle.dl_base.specs.declared.answer.Answer.{Answer}
+use Rattle.dl_base.specs.declared.answer.Answer.TheVariants as answers
 use Rattle.dl_base.specs.declared.fault.AppendFault.{AppendFault}
 use Rattle.dl_base.specs.declared.fault.AppendFault.TheVariants as appends
 use Rattle.dl_base.specs.declared.fault.Full.{Full}
@@ -21,9 +23,9 @@ use Rattle.meaning_system.specs.Machine.{step}
 use Rattle.meaning_system.specs.Recovering.{Recovers}
 use Rattle.meaning_system.specs.State.{State, Txn, stored, txn_of}
 use Rattle.meaning_system.specs.Writes.{writes}
-use Rattle.sys_core.specs.Steps.{draws, draws_by, records_of, undrawn}
+use Rattle.sys_core.specs.Steps.{draws, draws_by, draws_for, records_of, undrawn}
 use Rattle.sys_opening.specs.Owned.{AreFolded}
-use Rattle.sys_recovery.specs.Left.{IsShort, areas_of}
+use Rattle.sys_recovery.specs.Left.{IsAtomic, areas_of, left_by}
 use Rattle.sys_run.specs.Turning.{LeavesSome}
 
 -- ---- lists of records
@@ -78,7 +80,7 @@ undrawn-is : (o : Option Full) → Drawn (undrawn o)
 undrawn-is None = drawn refl
 undrawn-is (Some f) = exhausted _ f refl refl
 
-draws-is : (s : State) (x : Step) → Drawn (draws s x)
+pub draws-is : (s : State) (x : Step) → Drawn (draws s x)
 draws-is s (steps.Begin n) = by (txn_of s n)
   where
     by : (o : Option (ℕ × Txn)) → Drawn (draws_by o (s.drawn + 1))
@@ -92,11 +94,29 @@ draws-is s (steps.Rollback n) = drawn refl
 draws-is s (steps.File cmd) = drawn refl
 draws-is s (steps.Archive n) = drawn refl
 draws-is s steps.Backup = drawn refl
-draws-is s (steps.Restore t) = drawn refl
+draws-is s (steps.Restore t) = by (step s (steps.Restore t)).0
+  where
+    by : (a : Answer) → Drawn (draws_for a (s.drawn + 1))
+    by answers.Done = drawn refl
+    by (answers.Begun tx) = drawn refl
+    by (answers.Changed n) = drawn refl
+    by (answers.Rows grid) = drawn refl
+    by (answers.Committed c) = drawn refl
+    by (answers.Bytes bytes) = drawn refl
+    by (answers.Files files) = drawn refl
+    by (answers.Archived n) = drawn refl
+    by (answers.BackedUp n) = drawn refl
+    by (answers.Restored c lost) = undrawn-is (draw_full (s.drawn + 1))
+    by (answers.Resolved c d) = drawn refl
+    by (answers.Refused why) = drawn refl
 draws-is s (steps.Tick n) = drawn refl
 draws-is s steps.CrashManager = drawn refl
 draws-is s steps.CrashDatabase = drawn refl
 draws-is s steps.Resolve = drawn refl
+
+-- the records of a step that draws none are those that it writes
+plain : (s : State) (x : Step) (ds : List Write) → draws s x ≡ ds → records_of s x ≡ ds ++ as_writes (writes s x)
+plain s x ds is = ap (λ (es : List Write). es ++ as_writes (writes s x)) is
 
 -- nothing fits behind it
 none-fits : (js : Journals) (w : Write) (ws : List Write) (f : Full) → w.exhausted ≡ Some f → fitting js (w ∷ ws) ≡ []
@@ -106,6 +126,9 @@ none-fits js w ws f is = ap (λ (o : Option Full). unless (option_or o (past_lim
 not-full : (js : Journals) (w : Write) (ws : List Write) (f : Full) → w.exhausted ≡ Some f → full_in js (w ∷ ws) ≡ Some f
 unfolding full_in
 not-full js w ws f is = ap (λ (o : Option Full). option_or (option_or o (past_limit js w)) (full_in (grown_by w js) ws)) is
+
+pub exhausted-fits : (js : Journals) (s : State) (x : Step) (w : Write) (f : Full) → draws s x ≡ w ∷ [] → w.exhausted ≡ Some f → fitting js (records_of s x) ≡ []
+exhausted-fits js s x w f is full = ap (fitting js) (plain s x (w ∷ []) is) ∙ none-fits js w (as_writes (writes s x)) f full
 
 none_some : {A : Type 0} {X : Type 0} (x : A) → None ≡ Some x → X
 none_some x e = absurd cc
@@ -173,33 +196,22 @@ some-of js lists xs ws o p is m =
       has = subst (λ (l : List Write). HasLists (puts l lists) p) (sym part.is_front) m.has;
     }
 
--- none of them
-none-of : (js : Journals) (lists : Lists) (xs : List Written) (ws : List Write) (o : Outside) (p : CrashState) → ws ≡ [] → LeavesPrefix lists ws o p → LeavesSome js lists xs o p
-none-of js lists xs ws o p none m =
-    let empty = no-prefix m.prefix m.rest (m.parts ∙ none) in
-    record { told = m.told; front = []; rest = xs; parts = refl; fits = none-full js; has = subst (λ (l : List Write). HasLists (puts l lists) p) empty m.has }
-
 module _ (lists : Lists) (js ks : Journals) (s : State) (x : Step) (o n : Outside) (kept : AreKept js lists o) where
-  some-fit : (p : CrashState) → LeavesPrefix lists (fitting js (records_of s x)) o p → LeavesSome js lists (writes s x) o p
-  some-fit p m = by (draws-is s x)
-    where
-      by : Drawn (draws s x) → LeavesSome js lists (writes s x) o p
-      by (drawn none) = some-of js lists (writes s x) (records_of s x) o p (ap (λ (ds : List Write). ds ++ as_writes (writes s x)) none) m
-      by (exhausted w f is full) =
-          let nothing = ap (fitting js) (ap (λ (ds : List Write). ds ++ as_writes (writes s x)) is) ∙ none-fits js w (as_writes (writes s x)) f full in
-          none-of js lists (writes s x) (fitting js (records_of s x)) o p nothing m
-
   -- at each moment some of its records are there, in order
-  pub leaves-some : (fault : Option AppendFault) → Does js ks (records_of s x) fault o n → AtEveryMoment (LeavesSome js lists (writes s x) o) o n
-  leaves-some fault d = moments_more (LeavesPrefix lists (fitting js (records_of s x)) o) (LeavesSome js lists (writes s x) o) o n some-fit (d.images lists kept)
+  pub leaves-some : draws s x ≡ [] → (fault : Option AppendFault) → Does js ks (records_of s x) fault o n → AtEveryMoment (LeavesSome js lists (writes s x) o) o n
+  leaves-some none fault d =
+      moments_more (LeavesPrefix lists (fitting js (records_of s x)) o) (LeavesSome js lists (writes s x) o) o n (λ p m. some-of js lists (writes s x) (records_of s x) o p (plain s x [] none) m) (d.images lists kept)
 
-  -- without a fault all are there, and no number was exhausted
-  pub all-written : Does js ks (records_of s x) None o n → Does js ks (as_writes (writes s x)) None o n
-  all-written d = by (draws-is s x)
+  -- without a fault no number was exhausted, and all are there
+  pub no-draws : Does js ks (records_of s x) None o n → draws s x ≡ []
+  no-draws d = by (draws-is s x)
     where
-      by : Drawn (draws s x) → Does js ks (as_writes (writes s x)) None o n
-      by (drawn none) = subst (λ (ws : List Write). Does js ks ws None o n) (ap (λ (ds : List Write). ds ++ as_writes (writes s x)) none) d
-      by (exhausted w f is full) = none_some f (sym (d.fits refl) ∙ ap (full_in js) (ap (λ (ds : List Write). ds ++ as_writes (writes s x)) is) ∙ not-full js w (as_writes (writes s x)) f full)
+      by : Drawn (draws s x) → draws s x ≡ []
+      by (drawn none) = none
+      by (exhausted w f is full) = none_some f (sym (d.fits refl) ∙ ap (full_in js) (plain s x (w ∷ []) is) ∙ not-full js w (as_writes (writes s x)) f full)
+
+  pub all-written : Does js ks (records_of s x) None o n → Does js ks (as_writes (writes s x)) None o n
+  all-written d = subst (λ (ws : List Write). Does js ks ws None o n) (plain s x [] (no-draws d)) d
 
 -- ---- what is left recovers
 
@@ -207,56 +219,54 @@ pub record Laws : Type 0 where
   pub folded : (lists : Lists) (f later : Folds) (xs : List Written) → AreFolded lists f → folds_on (Some f) xs ≡ Some later → AreSpelled xs → AreFolded (puts (as_writes xs) lists) later
   pub stand : (lists : Lists) (f : Folds) (x : Stored) (p : CrashState) → AreFolded lists f → IsStand f x → HasLists lists p → AreasStand (areas_of p) x
   pub before : (first : ℕ) (f : Folds) (s : State) → AreSound first f s → IsStand f (stored s)
-  pub stopped : (first : ℕ) (f : Folds) (s : State) (x : Step) → AreSound first f s → s.drawn + 1 < 2 ^ 32 → IsShort x → (front rest : List Written) (w : Written) → front ++ w ∷ rest ≡ writes s x
-      → (later : Folds) × (folds_on (Some f) front ≡ Some later) × IsStand later (stored s)
-  pub whole : (first : ℕ) (f : Folds) (s : State) (x : Step) → AreSound first f s → s.drawn + 1 < 2 ^ 32 → IsShort x
+  pub stopped : (first : ℕ) (f : Folds) (s : State) (x : Step) → AreSound first f s → s.drawn + 1 < 2 ^ 32 → IsAtomic x → (front rest : List Written) (w : Written) → front ++ w ∷ rest ≡ writes s x
+      → (later : Folds) × (folds_on (Some f) front ≡ Some later) × IsStand later (stored (left_by s x front))
+  pub whole : (first : ℕ) (f : Folds) (s : State) (x : Step) → AreSound first f s → s.drawn + 1 < 2 ^ 32 → IsAtomic x
       → (later : Folds) × (folds_on (Some f) (writes s x) ≡ Some later) × IsStand later (stored (step s x).1)
 
 spelled-front : (front back : List Written) → AreSpelled (front ++ back) → AreSpelled front
 spelled-front [] back are = tt
 spelled-front (x ∷ front) back are = (are.0, spelled-front front back are.1)
 
+-- the first records of a step that is stopped: all that fit, and to what they recover
+pub record Stops (js : Journals) (lists : Lists) (s : State) (x : Step) : Type 0 where
+  pub front : List Written
+  pub rest : List Written
+  pub parts : front ++ rest ≡ writes s x
+  pub front_is : as_writes front ≡ fitting js (records_of s x)
+  pub recovers : (p : CrashState) → HasLists (puts (as_writes front) lists) p → Recovers (areas_of p) (left_by s x front)
+
 module _ (laws : Laws) (first : ℕ) (lists : Lists) (f : Folds) (s : State) (folded : AreFolded lists f) (sound : AreSound first f s) where
   -- the lists as they were recover to the state
   pub stays : (p : CrashState) → HasLists lists p → Recovers (areas_of p) s
   stays p has = laws.stand lists f (stored s) p folded (laws.before first f s sound) has
 
-  module _ (x : Step) (few : s.drawn + 1 < 2 ^ 32) (short : IsShort x) (spelled : AreSpelled (writes s x)) where
-    -- as long as a record is left, they recover to the state before
-    pub partly : (p : CrashState) (front rest : List Written) (w : Written) → front ++ w ∷ rest ≡ writes s x → HasLists (puts (as_writes front) lists) p → Recovers (areas_of p) s
-    partly p front rest w parts has =
-        let (later, folds, stand) = laws.stopped first f s x sound few short front rest w parts in
-        laws.stand (puts (as_writes front) lists) later (stored s) p
+  module _ (x : Step) (few : s.drawn + 1 < 2 ^ 32) (atomic : IsAtomic x) where
+    -- as long as a record is left, they recover to the state before, or, once its commit is there, to that behind
+    pub partly : AreSpelled (writes s x) → (p : CrashState) (front rest : List Written) (w : Written) → front ++ w ∷ rest ≡ writes s x → HasLists (puts (as_writes front) lists) p → Recovers (areas_of p) (left_by s x front)
+    partly spelled p front rest w parts has =
+        let (later, folds, stand) = laws.stopped first f s x sound few atomic front rest w parts in
+        laws.stand (puts (as_writes front) lists) later (stored (left_by s x front)) p
         (laws.folded lists f later front folded folds (spelled-front front (w ∷ rest) (subst AreSpelled (sym parts) spelled))) stand has
 
     -- and once none is, to that behind
-    pub wholly : (p : CrashState) (front : List Written) → front ≡ writes s x → HasLists (puts (as_writes front) lists) p → Recovers (areas_of p) (step s x).1
-    wholly p front is has =
-        let (later, folds, stand) = laws.whole first f s x sound few short in
+    pub wholly : AreSpelled (writes s x) → (p : CrashState) (front : List Written) → front ≡ writes s x → HasLists (puts (as_writes front) lists) p → Recovers (areas_of p) (step s x).1
+    wholly spelled p front is has =
+        let (later, folds, stand) = laws.whole first f s x sound few atomic in
         laws.stand (puts (as_writes (writes s x)) lists) later (stored (step s x).1) p (laws.folded lists f later (writes s x) folded folds spelled) stand
         (subst (λ (l : List Written). HasLists (puts (as_writes l) lists) p) is has)
 
-  -- where something is full, they recover to the state before it, also at the end
-  module _ (js ks : Journals) (x : Step) (few : s.drawn + 1 < 2 ^ 32) (short : IsShort x) (spelled : AreSpelled (writes s x)) (o n : Outside) where
-    pub full-stays : (g : Full) → Does js ks (records_of s x) (Some (appends.Full g)) o n → (p : CrashState) → LeavesPrefix lists (fitting js (records_of s x)) o p → Recovers (areas_of p) s
-    unfolding none-of
-    full-stays g d p m = by (draws-is s x)
+    -- where something is full, those are left that fit
+    pub full-stops : (js ks : Journals) (o n : Outside) (g : Full) → (draws s x ≡ [] → AreSpelled (writes s x)) → Does js ks (records_of s x) (Some (appends.Full g)) o n → Stops js lists s x
+    full-stops js ks o n g spelled d = by (draws-is s x)
       where
-        by : Drawn (draws s x) → Recovers (areas_of p) s
-        by (exhausted w h is full) =
-            let none = ap (fitting js) (ap (λ (ds : List Write). ds ++ as_writes (writes s x)) is) ∙ none-fits js w (as_writes (writes s x)) h full in
-            stays p (none-of js lists [] (fitting js (records_of s x)) o p none m).has
+        by : Drawn (draws s x) → Stops js lists s x
+        by (exhausted w h is full) = record { front = []; rest = writes s x; parts = refl; front_is = sym (exhausted-fits js s x w h is full); recovers = stays }
         by (drawn none) =
             let (next, later, parts) = strict (records_of s x) js g (d.full g refl) in
-            let all : m.prefix ++ (m.rest ++ next ∷ later) ≡ as_writes (writes s x) =
-            sym (assoc m.prefix m.rest (next ∷ later)) ∙ ap (λ (l : List Write). l ++ next ∷ later) m.parts ∙ parts ∙ ap (λ (ds : List Write). ds ++ as_writes (writes s x)) none in
-            let part = part-of (writes s x) m.prefix (m.rest ++ next ∷ later) all in
-            back next later part part.back part.parts part.is_back
+            let part = part-of (writes s x) (fitting js (records_of s x)) (next ∷ later) (parts ∙ plain s x [] none) in
+            record { front = part.front; rest = part.back; parts = part.parts; front_is = part.is_front; recovers = back next later part.front part.back part.parts part.is_back }
           where
-            no-more : {X : Type 0} (ws : List Write) (w : Write) (l : List Write) → ws ++ w ∷ l ≡ [] → X
-            no-more [] w l e = no-cons w l e
-            no-more (v ∷ ws) w l e = no-cons v (ws ++ w ∷ l) e
-
-            back : (w : Write) (l : List Write) (part : IsPart (writes s x) m.prefix (m.rest ++ w ∷ l)) (rest : List Written) → part.front ++ rest ≡ writes s x → as_writes rest ≡ m.rest ++ w ∷ l → Recovers (areas_of p) s
-            back w l part [] parts is = no-more m.rest w l (sym is)
-            back w l part (y ∷ rest) parts is = partly x few short spelled p part.front rest y parts (subst (λ (ws : List Write). HasLists (puts ws lists) p) (sym part.is_front) m.has)
+            back : (w : Write) (l : List Write) (front rest : List Written) → front ++ rest ≡ writes s x → as_writes rest ≡ w ∷ l → (p : CrashState) → HasLists (puts (as_writes front) lists) p → Recovers (areas_of p) (left_by s x front)
+            back w l front [] parts is p has = no-cons w l (sym is)
+            back w l front (y ∷ rest) parts is p has = partly (spelled none) p front rest y parts has

@@ -5,8 +5,10 @@ pub mod InMemory
 pub mod Lines
 pub mod Meeting
 pub mod Named
+pub mod Pacing
 pub mod Phases
 pub mod Reached
+pub mod Restoring
 pub mod Shown
 pub mod Stepping
 pub mod Taking

@@ -1,5 +1,5 @@
 -- A line of a run, turn by turn.
-use Rattle.std.proofs.Common.{◌≡◌, ℕ, zero, suc, ◌+◌, Bool, true, false, not, List, [], ◌∷◌, ◌++◌, Option, Some, None, refl, sym, ap, ◌∙◌, subst, arith}
+use Rattle.std.proofs.Common.{◌≡◌, ℕ, zero, suc, ◌+◌, Bool, true, false, not, if◌then◌else◌, List, [], ◌∷◌, ◌++◌, Option, Some, None, refl, sym, ap, ◌∙◌, subst, arith}
 use Rattle.dl_areas.specs.Lists.{HasLists, Journals, Lists, Write, all_grown, puts}
 use Rattle.dl_areas.specs.Writing.{fitting, full_in}
 use Rattle.dl_base.proofs.Moments.{moments_more}
@@ -9,7 +9,6 @@ use Rattle.dl_base.specs.declared.answer.Answer.TheVariants as answers
 use Rattle.dl_base.specs.declared.answer.Limit.TheVariants as limits
 use Rattle.dl_base.specs.declared.answer.Refusal.TheVariants as reasons
 use Rattle.dl_base.specs.declared.fault.Full.{Full}
-use Rattle.dl_base.specs.declared.step.Step.{Step}
 use Rattle.fm_manager.specs.Managed.{as_write, as_writes}
 use Rattle.meaning_areas.specs.Lists.{Written}
 use Rattle.meaning_run.proofs.Acting.{acted}
@@ -21,15 +20,16 @@ use Rattle.meaning_script.specs.declared.kind.Line.{Line}
 use Rattle.meaning_script.specs.declared.kind.Line.TheVariants as kinds
 use Rattle.meaning_system.specs.Recovering.{Recovers}
 use Rattle.meaning_system.specs.State.{State}
+use Rattle.meaning_system.specs.Writes.{writes}
 use Rattle.run_lines.specs.Reading.{Reads}
 use Rattle.sys_core.specs.Steps.{records_of}
 use Rattle.sys_core.specs.declared.engine.Engine.{Engine}
 use Rattle.sys_opening.specs.Owned.{journals_of}
-use Rattle.sys_recovery.specs.Left.{areas_of}
+use Rattle.sys_recovery.specs.Left.{areas_of, has_commit}
 use Rattle.sys_run.proofs.Images.{assoc, nil, none-full}
 use Rattle.sys_run.proofs.Named.{Names, line-named, names-read, no-extra}
 use Rattle.sys_run.proofs.Turns.{met-later, moment-between, next-on, turn-on, written-one}
-use Rattle.sys_run.specs.Running.{AreOf, HasGrown, IsAtLine, IsFullIn, IsInRun, IsPastLine, IsPrefix, Stands, StandsAfter}
+use Rattle.sys_run.specs.Running.{AreOf, HasGrown, IsAtLine, IsFullIn, IsInRun, IsPastLine, IsPrefix, Stands, StandsAfter, resting}
 use Rattle.sys_run.specs.Turning.{IsAtRead, IsBetween, IsInLine, IsNamed}
 use Rattle.sys_run.specs.declared.sessions.Sessions.{Sessions}
 
@@ -101,10 +101,6 @@ module _ (r : Run) (l : Read) (more : List Read) (lines : r.lines ≡ l ∷ more
   pub same-next : next_step (met r l.actor) ≡ next_step r
   same-next = next-on (met r l.actor) l more lines (comes_to r l) same-comes ∙ sym (next-on r l more lines (comes_to r l) refl)
 
--- the lists have those records of a step that fit
-abbrev HasFitting : Journals → State → Step → Lists → CrashState → Type 0
-HasFitting js s x lists p = HasLists (puts (fitting js (records_of s x)) lists) p
-
 module _ (r q : Run) (same : turn q ≡ turn r) (next : next_step q ≡ next_step r) (state : q.state ≡ r.state) where
   pub same-after : (n : ℕ) → after (suc n) q ≡ after (suc n) r
   same-after n = ap (after n) same
@@ -138,8 +134,12 @@ module _ (r q : Run) (same : turn q ≡ turn r) (next : next_step q ≡ next_ste
     fits = ap (λ (xs : List Written). full_in js (as_writes xs)) (sym (written-at m.count)) ∙ m.fits;
     full_is = full-at m.count m.full_is;
     told = m.told ∙ ap (λ (t : List ℕ). extended t before) (told-at m.count);
-    has = λ p now. has-at p m.count (m.has p now);
-    recovers = λ p now. subst (Recovers (areas_of p)) (state-at m.count) (m.recovers p now);
+    front = m.front;
+    rest = m.rest;
+    parts = m.parts ∙ ap (λ (s : State). writes s m.step) (state-at m.count);
+    front_is = m.front_is ∙ (λ i. fitting (all_grown (as_writes (written-at m.count i)) js) (records_of (state-at m.count i) m.step));
+    has = λ p now. subst (λ (xs : List Written). HasLists (puts (as_writes m.front) (puts (as_writes xs) lists)) p) (written-at m.count) (m.has p now);
+    recovers = λ p now. subst (Recovers (areas_of p)) (rest-at m.count) (m.recovers p now);
   }
     where
       next-at : (n : ℕ) → next_step (after n r) ≡ next_step (after n q)
@@ -149,6 +149,10 @@ module _ (r q : Run) (same : turn q ≡ turn r) (next : next_step q ≡ next_ste
       state-at : (n : ℕ) → (after n q).state ≡ (after n r).state
       state-at zero = state
       state-at (suc n) = ap (λ (z : Run). z.state) (same-after n)
+
+      rest-at : (n : ℕ) → resting (after n q) m.front ≡ resting (after n r) m.front
+      rest-at zero = λ i. if has_commit m.front then (same i).state else state i
+      rest-at (suc n) = ap (λ (z : Run). resting z m.front) (same-after n)
 
       told-at : (n : ℕ) → (after n q).told ≡ (after n r).told
       told-at zero = told
@@ -160,11 +164,6 @@ module _ (r q : Run) (same : turn q ≡ turn r) (next : next_step q ≡ next_ste
 
       full-at : (n : ℕ) → full_in (all_grown (as_writes (written n q)) js) (records_of (after n q).state m.step) ≡ Some f → full_in (all_grown (as_writes (written n r)) js) (records_of (after n r).state m.step) ≡ Some f
       full-at n is = (λ i. full_in (all_grown (as_writes (sym (written-at n) i)) js) (records_of (sym (state-at n) i) m.step)) ∙ is
-
-      has-at : (p : CrashState) (n : ℕ) → HasFitting (all_grown (as_writes (written n q)) js) (after n q).state m.step (puts (as_writes (written n q)) lists) p → HasFitting (all_grown (as_writes (written n r)) js) (after n r).state m.step (puts (as_writes (written n r)) lists) p
-      has-at p n has =
-          subst (λ (xs : List Written). HasFitting (all_grown (as_writes xs) js) (after n r).state m.step (puts (as_writes xs) lists) p) (written-at n)
-          (subst (λ (s : State). HasFitting (all_grown (as_writes (written n q)) js) s m.step (puts (as_writes (written n q)) lists) p) (state-at n) has)
 
 -- ---- a line that is told
 
@@ -287,12 +286,15 @@ later-full follow count r js lists w before f o grown m = record {
       ∙ sym (ap (λ (ks : Journals). full_in (all_grown (as_writes (written m.count (after count r))) ks) (records_of (after m.count (after count r)).state m.step)) grown.grew)
       ∙ m.full_is;
   told = m.told ∙ ap (λ (z : Run). extended z.told before) (follow.runs count m.count r);
-  has = λ p now.
-      subst (λ (z : Run). HasFitting (all_grown (as_writes (written (count + m.count) r)) js) z.state m.step (puts (as_writes (written (count + m.count) r)) lists) p) (follow.runs count m.count r)
-      (subst (λ (ls : Lists). HasFitting (all_grown (as_writes (written (count + m.count) r)) js) (after m.count (after count r)).state m.step ls p) (lists-later follow count m.count r lists)
-      (subst (λ (ks : Journals). HasFitting ks (after m.count (after count r)).state m.step (puts (as_writes (written m.count (after count r))) (puts (as_writes (written count r)) lists)) p)
-      (ap (all_grown (as_writes (written m.count (after count r)))) grown.grew ∙ journals-later follow count m.count r js) (m.has p now)));
-  recovers = λ p now. subst (λ (z : Run). Recovers (areas_of p) z.state) (follow.runs count m.count r) (m.recovers p now);
+  front = m.front;
+  rest = m.rest;
+  parts = m.parts ∙ ap (λ (z : Run). writes z.state m.step) (follow.runs count m.count r);
+  front_is =
+      m.front_is
+      ∙ ap (λ (ks : Journals). fitting (all_grown (as_writes (written m.count (after count r))) ks) (records_of (after m.count (after count r)).state m.step)) grown.grew
+      ∙ (λ i. fitting (journals-later follow count m.count r js i) (records_of (follow.runs count m.count r i).state m.step));
+  has = λ p now. subst (λ (ls : Lists). HasLists (puts (as_writes m.front) ls) p) (lists-later follow count m.count r lists) (m.has p now);
+  recovers = λ p now. subst (λ (z : Run). Recovers (areas_of p) (resting z m.front)) (follow.runs count m.count r) (m.recovers p now);
 }
 
 -- a moment of a later part of a run is one of the run
@@ -300,7 +302,7 @@ pub moment-later : Follow → (n : ℕ) (r : Run) (js : Journals) (lists : Lists
     → IsInRun js lists r before p
 moment-later follow n r js lists w before p grown m = record {
   count = n + m.count;
-  recovers = subst (λ (q : Run). Recovers (areas_of p) q.state) (follow.runs n m.count r) m.recovers;
+  recovers = subst (λ (q : Run). Recovers (areas_of p) (resting q m.front)) (follow.runs n m.count r) m.recovers;
   front = m.front;
   rest = m.rest;
   parts = m.parts ∙ ap (λ (q : Run). step_writes q.state (next_step q)) (follow.runs n m.count r);

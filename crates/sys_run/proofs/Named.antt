@@ -1,13 +1,13 @@
 -- A line of a session has the session's name as its actor.
 use Rattle.std.proofs.Common.{◌≡◌, ℕ, zero, suc, ◌+◌, ◌<◌, ◌≤◌, ◌||◌, ◌&&◌, ◌==◌, Bool, true, false, not, cond, List, [], ◌∷◌, ◌++◌, length, take, drop, nat_lt, nat_le, bytes_eq, Option, Some, None, Result, Ok, Err, is_some, unwrap_or, refl, sym, ap, ◌∙◌, subst, arith}
-use Rattle.std.specs.List.{list_any, position}
+use Rattle.std.specs.List.{position}
 use Rattle.dl_base.specs.Limits.{most_actors, most_line_bytes}
 use Rattle.dl_base.specs.declared.statement.Stmt.{Stmt}
 use Rattle.fs_command.specs.Commands.{command, is_session}
 use Rattle.fs_command.specs.Words.{Word, words}
 use Rattle.fs_command.specs.declared.line.FileLine.{FileLine}
 use Rattle.meaning_run.proofs.Acting.{known-last}
-use Rattle.meaning_run.specs.Running.{Run, met, number_of}
+use Rattle.meaning_run.specs.Running.{Run, met}
 use Rattle.meaning_script.specs.Actors.{actor_in, actor_of, is_extra, is_known, is_user_mark, number_from, session_in, session_number, sessions, user_in, with_actor}
 use Rattle.meaning_script.specs.Lines.{is_quiet, is_user}
 use Rattle.meaning_script.specs.Orders.{order}

@@ -1,5 +1,5 @@
 -- How far the transaction of a session is.
-use Rattle.std.proofs.Common.{◌≡◌, ℕ, zero, suc, List, slice_get, Option, Some, None, refl, sym, ap, ◌∙◌, subst}
+use Rattle.std.proofs.Common.{◌≡◌, ℕ, suc, List, slice_get, Option, Some, None, refl, sym, ap, ◌∙◌, subst}
 use Rattle.std.specs.FinMap as maps
 use Rattle.std.specs.Option.{unwrap_or}
 use Rattle.db_txn.specs.Transaction.{Transaction, vacant}

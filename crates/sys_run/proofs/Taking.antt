@@ -10,6 +10,7 @@ use Rattle.dl_base.specs.declared.fault.Full.{Full}
 use Rattle.dl_base.specs.declared.fault.StepFault.{StepFault}
 use Rattle.dl_base.specs.declared.fault.StepFault.TheVariants as faults
 use Rattle.dl_base.specs.declared.step.Step.{Step}
+use Rattle.dl_base.specs.declared.value.LinkNo.{LinkNo}
 use Rattle.fm_manager.specs.Managed.{AreSpelled}
 use Rattle.meaning_run.specs.Running.{Read, Run, actor_state, grids_behind, next_step, pending_links, step_in, stepped, text_of, told_by, turn, turned}
 use Rattle.meaning_script.specs.Actors.{sessions}
@@ -18,17 +19,17 @@ use Rattle.meaning_script.specs.Printed.{line_text}
 use Rattle.meaning_script.specs.declared.kind.Line.{Line}
 use Rattle.meaning_system.specs.Machine.{step}
 use Rattle.meaning_system.specs.Writes.{writes}
-use Rattle.sys_core.specs.Steps.{Steps}
+use Rattle.sys_core.specs.Steps.{Steps, draws}
 use Rattle.sys_core.specs.declared.engine.Engine.{Engine}
 use Rattle.sys_opening.specs.Owned.{journals_of}
 use Rattle.sys_run.proofs.Fine.{Fine, fine-line}
 use Rattle.sys_run.proofs.Images.{Laws, assoc, stays}
 use Rattle.sys_run.proofs.Lines.{told-grown, told-past, told-stands}
-use Rattle.sys_run.proofs.Stepping.{Leads, step-full, step-goes, step-grown, step-moments, step-stands, stepped-of}
+use Rattle.sys_run.proofs.Stepping.{Leads, Owes, step-full, step-goes, step-grown, step-moments, step-stands, stepped-of}
 use Rattle.sys_run.proofs.Turns.{moment-between, moment-telling, next-is, turn-is}
 use Rattle.sys_run.specs.Running.{AreOf, HasGrown, IsFullIn, IsInRun, Stands, StandsAfter}
 use Rattle.sys_run.specs.Sessions.{AreShown, IsStepOf}
-use Rattle.sys_run.specs.Turning.{Goes, IsBetween, IsInLine}
+use Rattle.sys_run.specs.Turning.{Goes, IsBetween, IsInLine, Sees}
 use Rattle.sys_run.specs.declared.sessions.Sessions.{Sessions}
 
 -- a result that is no want of memory
@@ -43,11 +44,11 @@ pub same-fault : {A : Type 0} {X : Type 0} (result : Result A StepFault) (now : 
 same-fault result now g f was is full = cc
 
 module _ (number : ℕ) (line : Line) (done : List Answer) (first : ℕ) (lists : Lists) (before : Option (List ℕ)) (r : Run) (l : Read) (more : List Read) (w : Engine) (was : Sessions) (o : Outside)
-    (stands : Stands first lists before r w was o) (is : IsInLine number line done r l more) where
+    (stands : Stands first lists before r w was o) (is : IsInLine number line done r l more) (waiting : List LinkNo) (sees : Sees r line done waiting) where
   -- it takes a step
-  module _ (x : Step) (m : Then) (meant_is : m ≡ expansion line (actor_state r line) done (pending_links r.state)) (step_is : m ≡ does x) where
+  module _ (x : Step) (m : Then) (meant_is : m ≡ expansion line (actor_state r line) done waiting) (step_is : m ≡ does x) where
     comes : expansion line (actor_state r line) done (pending_links r.state) ≡ does x
-    comes = sym meant_is ∙ step_is
+    comes = sym (meant_is ∙ sees) ∙ step_is
 
     pub its-step : IsStepOf (length was.txns) x
     its-step = subst (λ (n : ℕ). IsStepOf n x) (sym (stands.sessions.count ∙ ap length stands.sessions.names)) (subst (Fine (length (sessions r.actors))) comes (fine-line r line done (pending_links r.state) is.built is.named))
@@ -58,29 +59,29 @@ module _ (number : ℕ) (line : Line) (done : List Answer) (first : ℕ) (lists 
     next : next_step r ≡ Some x
     next = next-is number line done r l more is (does x) comes
 
-    pub step-history : Laws → (v : Engine) (n : Outside) (result : Result Answer StepFault) → Steps first x r.state w v result o n → (result ≢ Err faults.Memory → AreSpelled (writes r.state x)) → AtEveryMoment (IsInRun (journals_of w.owners) lists r before) o n
+    pub step-history : Laws → (v : Engine) (n : Outside) (result : Result Answer StepFault) → Steps first x r.state w v result o n → (result ≢ Err faults.Memory → draws r.state x ≡ [] → AreSpelled (writes r.state x)) → AtEveryMoment (IsInRun (journals_of w.owners) lists r before) o n
     step-history laws v n result s spelled = step-moments laws first lists before r w v was o n stands (length was.txns) x its-step next to result s spelled
 
-    pub step-turned : Laws → Leads → (v : Engine) (n : Outside) (result : Result Answer StepFault) (a : Answer) → result ≡ Ok a → Steps first x r.state w v result o n → (result ≢ Err faults.Memory → AreSpelled (writes r.state x))
+    pub step-turned : Laws → Leads → Owes → (v : Engine) (n : Outside) (result : Result Answer StepFault) (a : Answer) → result ≡ Ok a → Steps first x r.state w v result o n → (result ≢ Err faults.Memory → draws r.state x ≡ [] → AreSpelled (writes r.state x))
         → (txns : List Transaction) → OnOk result (AreShown (step r.state x).1 txns) → length txns ≡ length was.txns → (later : List Answer) → later ≡ done ++ a ∷ []
         → StandsAfter 1 first lists before r v (record was { txns = txns }) n × HasGrown 1 r (journals_of w.owners) v × Goes false number line later r l more
-    step-turned laws leads v n result a is_ok s spelled txns shown count later put =
+    step-turned laws leads owes v n result a is_ok s spelled txns shown count later put =
         let here = subst (λ (q : Result Answer StepFault). Steps first x r.state w v q o n) is_ok s in
         let shows = subst (λ (q : Result Answer StepFault). OnOk q (AreShown (step r.state x).1 txns)) is_ok shown in (
-          step-stands laws first lists before r w v was o n stands (length was.txns) x its-step next to leads a here (spelled (not-memory result a is_ok)) (record was { txns = txns }) (stepped-of r x was txns stands.sessions shows count),
+          step-stands laws first lists before r w v was o n stands (length was.txns) x its-step next to leads owes a here (spelled (not-memory result a is_ok)) (record was { txns = txns }) (stepped-of r x was txns stands.sessions shows count),
           step-grown laws first lists before r w v was o n stands (length was.txns) x its-step next to a here,
           step-goes number line done later r l more x a is next to here.answers.answer put,
         )
 
-    pub step-filled : Laws → (v : Engine) (n : Outside) (result : Result Answer StepFault) (f : Full) → result ≡ Err (faults.Full f) → Steps first x r.state w v result o n → (result ≢ Err faults.Memory → AreSpelled (writes r.state x))
+    pub step-filled : Laws → (v : Engine) (n : Outside) (result : Result Answer StepFault) (f : Full) → result ≡ Err (faults.Full f) → Steps first x r.state w v result o n → (result ≢ Err faults.Memory → draws r.state x ≡ [] → AreSpelled (writes r.state x))
         → IsFullIn (journals_of w.owners) lists r before f n
     step-filled laws v n result f is_full s spelled = step-full laws first lists before r w v was o n stands (length was.txns) x its-step next to f
         (subst (λ (q : Result Answer StepFault). Steps first x r.state w v q o n) is_full s) (spelled (full-no-memory result f is_full))
 
   -- it is told
-  module _ (t m : Then) (meant_is : m ≡ expansion line (actor_state r line) done (pending_links r.state)) (then_is : m ≡ t) (none : step_in t ≡ None) (a : Option Answer) (tells : turned r l more t ≡ told_by r l more a) where
+  module _ (t m : Then) (meant_is : m ≡ expansion line (actor_state r line) done waiting) (then_is : m ≡ t) (none : step_in t ≡ None) (a : Option Answer) (tells : turned r l more t ≡ told_by r l more a) where
     comes-to : expansion line (actor_state r line) done (pending_links r.state) ≡ t
-    comes-to = sym meant_is ∙ then_is
+    comes-to = sym (meant_is ∙ sees) ∙ then_is
 
     told-to : turn r ≡ told_by r l more a
     told-to = turn-is number line done r l more is t comes-to ∙ tells

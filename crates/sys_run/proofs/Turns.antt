@@ -1,5 +1,5 @@
 -- One turn of a run.
-use Rattle.std.proofs.Common.{◌≡◌, ℕ, zero, suc, ◌+◌, Bool, List, [], ◌∷◌, ◌++◌, take, drop, slice_get, Option, Some, None, refl, sym, ap, ◌∙◌, subst}
+use Rattle.std.proofs.Common.{◌≡◌, ℕ, zero, suc, Bool, if◌then◌else◌, List, [], ◌∷◌, ◌++◌, take, drop, slice_get, Option, Some, None, refl, sym, ap, ◌∙◌, subst}
 use Rattle.std.proofs.lemmas.List.{take-append-drop}
 use Rattle.dl_areas.specs.Lists.{HasLists, Journals, Lists, puts}
 use Rattle.dl_areas.specs.Writing.{IsTelling, full_in}
@@ -16,8 +16,8 @@ use Rattle.meaning_script.specs.declared.kind.Line.{Line}
 use Rattle.meaning_system.specs.Machine.{step}
 use Rattle.meaning_system.specs.Recovering.{Recovers}
 use Rattle.meaning_system.specs.State.{State}
-use Rattle.sys_recovery.specs.Left.{areas_of}
-use Rattle.sys_run.specs.Running.{IsInRun, IsPrefix}
+use Rattle.sys_recovery.specs.Left.{areas_of, has_commit}
+use Rattle.sys_run.specs.Running.{IsInRun, IsPrefix, resting}
 use Rattle.sys_run.specs.Turning.{IsBetween, IsInLine}
 use Rattle.sys_run.proofs.Images.{assoc, nil, none-full}
 
@@ -75,11 +75,11 @@ written-one r o next = nil (step_writes r.state (next_step r)) ∙ ap (step_writ
 
 -- ---- moments
 
--- A moment of a step: some of its records are left, and the areas recover to the state before it; or none is, and they recover to that
--- behind it
-pub moment-before : (js : Journals) (lists : Lists) (r : Run) (before : Option (List ℕ)) (o : Outside) (p : CrashState) → o.told ≡ extended r.told before → o.told ≡ Some p.told → Recovers (areas_of p) r.state
-    → (front rest : List Written) → front ++ rest ≡ step_writes r.state (next_step r) → HasLists (puts (as_writes front) lists) p → full_in js (as_writes front) ≡ None → IsInRun js lists r before p
-moment-before js lists r before o p told at recovers front rest parts has fits = record {
+-- A moment of a step: some of its records are left, and the areas recover to the state before it, or, once the commit of a restore is there,
+-- to that behind it; or none is, and they recover to that behind it
+pub moment-before : (js : Journals) (lists : Lists) (r : Run) (before : Option (List ℕ)) (o : Outside) (p : CrashState) → o.told ≡ extended r.told before → o.told ≡ Some p.told
+    → (front rest : List Written) → front ++ rest ≡ step_writes r.state (next_step r) → Recovers (areas_of p) (resting r front) → HasLists (puts (as_writes front) lists) p → full_in js (as_writes front) ≡ None → IsInRun js lists r before p
+moment-before js lists r before o p told at front rest parts recovers has fits = record {
   count = 0;
   recovers = recovers;
   front = front;
@@ -153,11 +153,11 @@ moment-between js lists r next before p is m = record {
 pub met-later : (js : Journals) (lists : Lists) (r q : Run) (before : Option (List ℕ)) (p : CrashState) → turn q ≡ turn r → next_step q ≡ next_step r → q.state ≡ r.state → q.told ≡ r.told → IsInRun js lists q before p → IsInRun js lists r before p
 met-later js lists r q before p same next state told m = by m.count m.recovers m.parts m.has m.fits m.not_behind m.not_ahead
   where
-    by : (n : ℕ) → Recovers (areas_of p) (after n q).state → m.front ++ m.rest ≡ step_writes (after n q).state (next_step (after n q)) → HasLists (puts (as_writes (written n q ++ m.front)) lists) p
+    by : (n : ℕ) → Recovers (areas_of p) (resting (after n q) m.front) → m.front ++ m.rest ≡ step_writes (after n q).state (next_step (after n q)) → HasLists (puts (as_writes (written n q ++ m.front)) lists) p
         → full_in js (as_writes (written n q ++ m.front)) ≡ None → IsPrefix (after n q).told m.said → IsPrefix m.said (after (suc n) q).told → IsInRun js lists r before p
     by zero recovers parts has fits behind ahead = record {
       count = 0;
-      recovers = subst (λ (s : State). Recovers (areas_of p) s) state recovers;
+      recovers = subst (Recovers (areas_of p)) (λ i. if has_commit m.front then (same i).state else state i) recovers;
       front = m.front;
       rest = m.rest;
       parts = parts ∙ (λ i. step_writes (state i) (next i));
@@ -172,7 +172,7 @@ met-later js lists r q before p same next state told m = by m.count m.recovers m
         let these : written (suc n) q ≡ written (suc n) r = (λ i. step_writes (state i) (next i) ++ written n (same i)) in
         record {
           count = suc n;
-          recovers = subst (λ (z : Run). Recovers (areas_of p) (after n z).state) same recovers;
+          recovers = subst (λ (z : Run). Recovers (areas_of p) (resting (after n z) m.front)) same recovers;
           front = m.front;
           rest = m.rest;
           parts = parts ∙ ap (λ (z : Run). step_writes (after n z).state (next_step (after n z))) same;

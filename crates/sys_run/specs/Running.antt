@@ -1,5 +1,5 @@
 -- How an engine, its sessions and five areas go with a run, and what a crash leaves of it.
-use Rattle.std.specs.Prelude.{◌≡◌, ℕ, suc, ◌+◌, List, [], ◌∷◌, ◌++◌, length, Option, Some, None}
+use Rattle.std.specs.Prelude.{◌≡◌, ℕ, suc, ◌+◌, if◌then◌else◌, List, [], ◌∷◌, ◌++◌, length, Option, Some, None}
 use Rattle.dl_areas.specs.Lists.{AreKept, AreReady, HasLists, Journals, Lists, all_grown, puts}
 use Rattle.dl_areas.specs.Writing.{fitting, full_in}
 use Rattle.dl_base.specs.Outside.{CrashState, Now, Outside, extended}
@@ -8,14 +8,16 @@ use Rattle.dl_base.specs.declared.step.Step.{Step}
 use Rattle.fm_manager.specs.Managed.{as_writes}
 use Rattle.meaning_areas.specs.Lists.{Folds, Written}
 use Rattle.meaning_history.specs.Sound.{AreSound}
-use Rattle.meaning_run.specs.Running.{IsRead, Read, Run, after, next_step, step_writes, written}
+use Rattle.meaning_run.specs.Running.{IsRead, Read, Run, after, next_step, step_writes, turn, written}
 use Rattle.meaning_script.specs.Actors.{sessions}
 use Rattle.meaning_system.specs.Recovering.{Recovers}
+use Rattle.meaning_system.specs.State.{State}
+use Rattle.meaning_system.specs.Writes.{writes}
 use Rattle.sys_core.specs.Standing.{IsOf}
 use Rattle.sys_core.specs.Steps.{records_of}
 use Rattle.sys_core.specs.declared.engine.Engine.{Engine}
 use Rattle.sys_opening.specs.Owned.{AreFolded, journals_of}
-use Rattle.sys_recovery.specs.Left.{areas_of}
+use Rattle.sys_recovery.specs.Left.{areas_of, has_commit}
 use Rattle.sys_run.specs.Sessions.{AreShown}
 use Rattle.sys_run.specs.declared.sessions.Sessions.{Sessions}
 
@@ -55,13 +57,19 @@ pub record IsPastLine (count number : ℕ) (r : Run) (more : List Read) : Type 0
 abbrev pub IsPrefix : List ℕ → List ℕ → Type 0
 IsPrefix front text = (rest : List ℕ) × (text ≡ front ++ rest)
 
+-- The state of a run where the first of the records of its next turn are there: that behind the turn once the commit of a restore is among
+-- them, else that of the run. No other step has records behind its commit.
+abbrev pub resting : Run → List Written → State
+resting r front = if has_commit front then (turn r).state else r.state
+
 -- A MOMENT OF A RUN, before which the areas had these journals and lists: behind these they have the records of some turns and the first of
--- those of the next turn, all of which fit, and nothing else; they recover to the state after those turns; and what was told is not behind
--- what was told by then, nor ahead of the next turn
+-- those of the next turn, all of which fit, and nothing else; they recover to the state behind those turns, or, once the commit of a restore
+-- is among the records of the next, to the state behind that one; and what was told is not behind what was told by then, nor ahead of the
+-- next turn
 pub record IsInRun (js : Journals) (lists : Lists) (r : Run) (before : Option (List ℕ)) (p : CrashState) : Type 0 where
   pub count : ℕ
-  pub recovers : Recovers (areas_of p) (after count r).state
   pub front : List Written
+  pub recovers : Recovers (areas_of p) (resting (after count r) front)
   pub rest : List Written
   pub parts : front ++ rest ≡ step_writes (after count r).state (next_step (after count r))
   pub has : HasLists (puts (as_writes (written count r ++ front)) lists) p
@@ -73,7 +81,7 @@ pub record IsInRun (js : Journals) (lists : Lists) (r : Run) (before : Option (L
 
 -- FULL: a record of the step in progress has no room, where the areas had these journals and lists before the run; and it is the first that
 -- has none. What was told is what was told before that step; and a crash leaves the records of the turns before it and those of its own
--- that fit, which recover to the state before it.
+-- that fit, which recover to the state before it, or, once the commit of a restore is among them, to the state behind it.
 pub record IsFullIn (js : Journals) (lists : Lists) (r : Run) (before : Option (List ℕ)) (full : Full) (n : Outside) : Type 0 where
   pub count : ℕ
   pub step : Step
@@ -81,8 +89,12 @@ pub record IsFullIn (js : Journals) (lists : Lists) (r : Run) (before : Option (
   pub fits : full_in js (as_writes (written count r)) ≡ None
   pub full_is : full_in (all_grown (as_writes (written count r)) js) (records_of (after count r).state step) ≡ Some full
   pub told : n.told ≡ extended (after count r).told before
-  pub has : (p : CrashState) → Now n p → HasLists (puts (fitting (all_grown (as_writes (written count r)) js) (records_of (after count r).state step)) (puts (as_writes (written count r)) lists)) p
-  pub recovers : (p : CrashState) → Now n p → Recovers (areas_of p) (after count r).state
+  pub front : List Written
+  pub rest : List Written
+  pub parts : front ++ rest ≡ writes (after count r).state step
+  pub front_is : as_writes front ≡ fitting (all_grown (as_writes (written count r)) js) (records_of (after count r).state step)
+  pub has : (p : CrashState) → Now n p → HasLists (puts (as_writes front) (puts (as_writes (written count r)) lists)) p
+  pub recovers : (p : CrashState) → Now n p → Recovers (areas_of p) (resting (after count r) front)
 
 -- the same engine after some turns of a run, behind their records
 abbrev pub StandsAfter : ℕ → ℕ → Lists → Option (List ℕ) → Run → Engine → Sessions → Outside → Type 0

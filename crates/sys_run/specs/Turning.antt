@@ -5,11 +5,13 @@ use Rattle.dl_areas.specs.Writing.{full_in}
 use Rattle.dl_base.specs.Outside.{CrashState, Outside, extended}
 use Rattle.dl_base.specs.declared.answer.Answer.{Answer}
 use Rattle.dl_base.specs.declared.step.Step.{Step}
+use Rattle.dl_base.specs.declared.value.LinkNo.{LinkNo}
 use Rattle.fm_manager.specs.Managed.{as_writes}
 use Rattle.meaning_areas.specs.Lists.{Written}
 use Rattle.meaning_run.specs.Built.{is_built}
-use Rattle.meaning_run.specs.Running.{IsRead, Read, Run, after, next_step, number_of}
+use Rattle.meaning_run.specs.Running.{IsRead, Read, Run, actor_state, after, next_step, number_of, pending_links}
 use Rattle.meaning_script.specs.Actors.{is_extra, sessions, with_actor}
+use Rattle.meaning_script.specs.Expansion.{expansion}
 use Rattle.meaning_script.specs.declared.kind.Line.{Line}
 use Rattle.meaning_script.specs.declared.kind.Line.TheVariants as lines
 use Rattle.meaning_system.specs.Recovering.{Recovers}
@@ -42,6 +44,10 @@ pub record IsInLine (number : ℕ) (line : Line) (done : List Answer) (r : Run) 
   pub right : is_extra r.actors l.actor ≡ false
   pub built : is_built line ≡ true
   pub named : IsNamed r line
+
+-- THE LINE SEES these links for those whose copies are pending: with them it comes to the same
+abbrev pub Sees : Run → Line → List Answer → List LinkNo → Type 0
+Sees r line done waiting = expansion line (actor_state r line) done waiting ≡ expansion line (actor_state r line) done (pending_links r.state)
 
 -- a turn that takes a step for the line
 pub record GoesOn (number : ℕ) (line : Line) (done : List Answer) (r : Run) (l : Read) (more : List Read) : Type 0 where

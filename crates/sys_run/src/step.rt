@@ -1,5 +1,5 @@
 // One step of the machine, for a line.
-ghost use Rattle.std.specs.Prelude.{◌≡◌, ◌≢◌, ℕ, true, length, Err, OnOk};
+ghost use Rattle.std.specs.Prelude.{◌≡◌, ◌≢◌, ℕ, [], true, length, position, Err, OnOk};
 ghost use Rattle.db_txn.specs.Transaction.{is_plain};
 ghost use Rattle.dl_areas.specs.Lists.{AreReady};
 ghost use Rattle.dl_base.specs.declared.step.Step.TheVariants as steps;
@@ -8,12 +8,12 @@ ghost use Rattle.meaning_system.specs.Machine as machine;
 ghost use Rattle.meaning_system.specs.State.{State};
 ghost use Rattle.meaning_system.specs.Writes.{writes};
 ghost use Rattle.sys_core.specs.Standing.{IsOf};
-ghost use Rattle.sys_core.specs.Steps.{Steps, StepsInMemory, as_step};
+ghost use Rattle.sys_core.specs.Steps.{Steps, StepsInMemory, as_step, draws};
 ghost use Rattle.sys_opening.specs.Owned.{journals_of};
-ghost use Rattle.sys_run.specs.Sessions.{AreShown, IsSession, IsStepOf};
+ghost use Rattle.sys_run.specs.Sessions.{AreShown, IsSession, IsStepOf, has_txn};
 
 use db_txn::Txn;
-use dl_base::{Answer, AppendFault, Bench, List, Step, StepFault, Stmt};
+use dl_base::{Answer, AppendFault, Bench, List, Step, StepFault, Stmt, Target};
 use sys_core::{Engine, steps_leave_other_sessions};
 
 /// Takes a step of the machine that some line asks for.
@@ -28,7 +28,10 @@ pub(crate) fn do_step<B: Bench>(
     requires stands { (first : ℕ) × (s : State) × IsOf first engine.old s × AreShown s txns.old }
     ensures steps { (first : ℕ) (s : State) → IsOf first engine.old s → AreShown s txns.old → Steps first step s engine.old engine.new result (B.outside bench.old) (B.outside bench.new) }
     ensures shown { (first : ℕ) (s : State) → IsOf first engine.old s → AreShown s txns.old → OnOk result (AreShown (machine.step s step).1 txns.new) }
-    ensures spelled { result ≢ Err StepFault.Memory → (first : ℕ) (s : State) → IsOf first engine.old s → AreShown s txns.old → AreSpelled (writes s step) }
+
+    // Where a number is exhausted nothing is written.
+    ensures spelled { result ≢ Err StepFault.Memory → (first : ℕ) (s : State) → IsOf first engine.old s → AreShown s txns.old → draws s step ≡ [] → AreSpelled (writes s step) }
+
     ensures count { length txns.new ≡ length txns.old }
 {
     steps_leave_other_sessions();
@@ -40,13 +43,11 @@ pub(crate) fn do_step<B: Bench>(
         Step::Finish(session) => finish(engine, txns, bench, session),
         Step::Rollback(session) => roll_back(engine, txns, bench, session),
         Step::File(cmd) => engine.command(bench, cmd),
+        Step::Archive(link) => engine.archive(bench, link),
+        Step::Backup => engine.backup(bench),
+        Step::Restore(target) => restore(engine, txns, bench, target),
         Step::Tick(seconds) => Ok(engine.tick(seconds)),
-        Step::Archive(_)
-        | Step::Backup
-        | Step::Restore(_)
-        | Step::CrashManager
-        | Step::CrashDatabase
-        | Step::Resolve => unreachable!(),
+        Step::CrashManager | Step::CrashDatabase | Step::Resolve => unreachable!(),
     }
 }
 
@@ -185,6 +186,44 @@ fn roll_back<B: Bench>(
         Some(txn) => as_step(engine.roll_back(bench, txn)),
         None => unreachable!(),
     }
+}
+
+fn restore<B: Bench>(
+    engine: &mut Engine,
+    txns: &List<Txn>,
+    bench: &mut B,
+    target: Target,
+) -> Result<Answer, StepFault>
+    requires ready { AreReady (journals_of engine.old.owners) (B.outside bench.old) }
+    requires stands { (first : ℕ) × (s : State) × IsOf first engine.old s × AreShown s txns.now }
+    ensures steps { (first : ℕ) (s : State) → IsOf first engine.old s → AreShown s txns.now → Steps first (steps.Restore target) s engine.old engine.new result (B.outside bench.old) (B.outside bench.new) }
+    ensures spelled { result ≢ Err StepFault.Memory → (first : ℕ) (s : State) → IsOf first engine.old s → AreShown s txns.now → draws s (steps.Restore target) ≡ [] → AreSpelled (writes s (steps.Restore target)) }
+{
+    let busy = first_busy(txns);
+    engine.restore(bench, busy, target)
+}
+
+// The first session, by its number, that has a transaction.
+fn first_busy(txns: &List<Txn>) -> Option<u32>
+    ensures { (s : State) → AreShown s txns.now → machine.first_session s ≡ result }
+{
+    let at = first_with_txn(txns.as_slice())?;
+    match txns.at(at) {
+        Some(txn) => Some(txn.session()),
+        None => None,
+    }
+}
+
+fn first_with_txn(txns: &[Txn]) -> Option<usize>
+    ensures { result ≡ position has_txn txns.now }
+{
+    txns.iter().position(|txn| has_txn(txn))
+}
+
+fn has_txn(txn: &Txn) -> bool
+    ensures { result ≡ has_txn txn.now }
+{
+    txn.tx().is_some()
 }
 
 // The result of a step that takes no memory.

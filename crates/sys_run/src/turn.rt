@@ -1,12 +1,11 @@
 // One turn: a step of the machine for a line, or its telling.
-ghost use Rattle.std.specs.Prelude.{◌≡◌, ◌≢◌, ◌∷◌, ◌++◌, [], true, ℕ, List as Items, Err, Some, Option as Optional, IfOk, OnOk};
+ghost use Rattle.std.specs.Prelude.{◌≡◌, ◌≢◌, ◌∷◌, ◌++◌, [], ℕ, List as Items, Err, Some, Option as Optional, IfOk, OnOk};
 ghost use Rattle.dl_areas.specs.Lists.{Lists};
 ghost use Rattle.dl_base.specs.Outside.{AtEveryMoment, FaultCounted};
 ghost use Rattle.dl_base.specs.declared.answer.Answer.TheVariants as answers;
 ghost use Rattle.dl_base.specs.declared.fault.Full.{Full};
-ghost use Rattle.meaning_run.specs.Built as building;
 ghost use Rattle.meaning_run.specs.Running as running;
-ghost use Rattle.meaning_run.specs.Running.{Read, Run, pending_links, phase_in, told_by};
+ghost use Rattle.meaning_run.specs.Running.{Read, Run, phase_in, told_by};
 ghost use Rattle.meaning_script.specs.Expansion.{IsRead, expansion, meant};
 ghost use Rattle.meaning_system.specs.State.{State, txn_of};
 ghost use Rattle.sys_core.specs.Seated.{HasTxn};
@@ -15,22 +14,24 @@ ghost use Rattle.sys_core.specs.declared.engine.Engine as working;
 ghost use Rattle.sys_opening.specs.Owned.{journals_of};
 ghost use Rattle.sys_run.specs.Running.{AreOf, HasGrown, IsFullIn, IsInRun, Stands, StandsAfter};
 ghost use Rattle.sys_run.specs.Sessions.{AreShown};
-ghost use Rattle.sys_run.specs.Turning.{Goes, IsBetween, IsInLine};
+ghost use Rattle.sys_run.specs.Turning.{Goes, IsBetween, IsInLine, Sees};
 
 use crate::sessions::Sessions;
 use crate::step::{do_statement, do_step};
 use db_txn::Txn;
 use dl_areas::telling_leaves_the_areas;
-use dl_base::{Answer, Bench, List, Memory, Phase, Refusal, StepFault};
+use dl_base::{Answer, Bench, LinkNo, List, Memory, Phase, Refusal, StepFault};
 use fs_command::FileLine;
 use meaning_history::each_step_leads_on;
+use meaning_restore::restores_go_on_with_the_history;
 use run_print::text;
 use run_script::{ActorState, Line, Next, expand};
 use std::alloc::Global;
 use sys_core::Engine;
 use sys_recovery::{stopped_steps_stand, what_is_written_is_read};
 
-// Takes the line's next step, whose answer it puts behind those before it, or tells the line. Whether it is told.
+// Takes the line's next step, whose answer it puts behind those before it, or tells the line. Whether it is told. The line sees the links
+// that are given for those whose copies are pending.
 pub(crate) fn take_turn<B: Bench>(
     alloc: Global,
     engine: &mut Engine,
@@ -38,22 +39,24 @@ pub(crate) fn take_turn<B: Bench>(
     bench: &mut B,
     number: u64,
     line: &Line,
+    waiting: &[LinkNo],
     answers: &mut List<Answer>,
 ) -> Result<bool, StepFault>
     requires read { IsRead line.now }
-    requires stands { (first : ℕ) × (lists : Lists) × (before : Optional (Items ℕ)) × (r : Run) × (l : Read) × (more : Items Read) × Stands first lists before r engine.old sessions.old (B.outside bench.old) × IsInLine number line.now answers.old r l more }
-    ensures turned { IfOk result (λ told. (first : ℕ) (lists : Lists) (before : Optional (Items ℕ)) (r : Run) (l : Read) (more : Items Read) → Stands first lists before r engine.old sessions.old (B.outside bench.old) → IsInLine number line.now answers.old r l more
+    requires stands { (first : ℕ) × (lists : Lists) × (before : Optional (Items ℕ)) × (r : Run) × (l : Read) × (more : Items Read) × Stands first lists before r engine.old sessions.old (B.outside bench.old) × IsInLine number line.now answers.old r l more × Sees r line.now answers.old waiting.now }
+    ensures turned { IfOk result (λ told. (first : ℕ) (lists : Lists) (before : Optional (Items ℕ)) (r : Run) (l : Read) (more : Items Read) → Stands first lists before r engine.old sessions.old (B.outside bench.old) → IsInLine number line.now answers.old r l more → Sees r line.now answers.old waiting.now
         → StandsAfter 1 first lists before r engine.new sessions.new (B.outside bench.new) × HasGrown 1 r (journals_of engine.old.owners) engine.new × Goes told number line.now answers.new r l more) }
-    ensures history { (first : ℕ) (lists : Lists) (before : Optional (Items ℕ)) (r : Run) (l : Read) (more : Items Read) → Stands first lists before r engine.old sessions.old (B.outside bench.old) → IsInLine number line.now answers.old r l more
+    ensures history { (first : ℕ) (lists : Lists) (before : Optional (Items ℕ)) (r : Run) (l : Read) (more : Items Read) → Stands first lists before r engine.old sessions.old (B.outside bench.old) → IsInLine number line.now answers.old r l more → Sees r line.now answers.old waiting.now
         → AtEveryMoment (IsInRun (journals_of engine.old.owners) lists r before) (B.outside bench.old) (B.outside bench.new) }
-    ensures full { (full : Full) → result ≡ Err (StepFault.Full full) → (first : ℕ) (lists : Lists) (before : Optional (Items ℕ)) (r : Run) (l : Read) (more : Items Read) → Stands first lists before r engine.old sessions.old (B.outside bench.old) → IsInLine number line.now answers.old r l more
+    ensures full { (full : Full) → result ≡ Err (StepFault.Full full) → (first : ℕ) (lists : Lists) (before : Optional (Items ℕ)) (r : Run) (l : Read) (more : Items Read) → Stands first lists before r engine.old sessions.old (B.outside bench.old) → IsInLine number line.now answers.old r l more → Sees r line.now answers.old waiting.now
         → IsFullIn (journals_of engine.old.owners) lists r before full (B.outside bench.new) }
     ensures device { result ≡ Err StepFault.Device → FaultCounted (B.outside bench.old) (B.outside bench.new) }
 {
     what_is_written_is_read();
     stopped_steps_stand();
     each_step_leads_on();
-    match next_of(alloc, engine, sessions, line, answers)? {
+    restores_go_on_with_the_history();
+    match next_of(alloc, engine, sessions, line, waiting, answers)? {
         Next::Do(step) => {
             let answer = do_step(engine, &mut sessions.txns, bench, step)?;
             put(answers, answer)?;
@@ -87,20 +90,20 @@ fn put(answers: &mut List<Answer>, answer: Answer) -> Result<(), Memory>
     }
 }
 
-// What a line comes to behind these answers.
+// What a line comes to behind these answers, where these links wait for copies.
 fn next_of<'a>(
     alloc: Global,
     engine: &Engine,
     sessions: &Sessions,
     line: &'a Line,
+    waiting: &[LinkNo],
     answers: &List<Answer>,
 ) -> Result<Next<'a>, Memory>
     requires read { IsRead line.now }
-    requires built { building.is_built line.now ≡ true }
-    ensures { IfOk result (λ next. (first : ℕ) (r : Run) → IsOf first engine.now r.state → AreOf r sessions.now → meant next ≡ expansion line.entry.now (running.actor_state r line.now) answers.now (pending_links r.state)) }
+    ensures { IfOk result (λ next. (first : ℕ) (r : Run) → IsOf first engine.now r.state → AreOf r sessions.now → meant next ≡ expansion line.entry.now (running.actor_state r line.now) answers.now waiting.now) }
 {
     let actor = actor_state(engine, sessions, line)?;
-    expand(alloc, line, &actor, answers, &List::empty(alloc))
+    expand(alloc, line, &actor, answers, waiting)
 }
 
 // How the actor of a line is.

@@ -154,7 +154,7 @@ fn plain() -> [Row; 4] {
         (
             b"run",
             b"! archive\n! crash both\n! backup\nA: CREATE TABLE m (f DATALINK LINKTYPE URL FILE LINK CONTROL INTEGRITY ALL READ PERMISSION DB WRITE PERMISSION BLOCKED RECOVERY YES ON UNLINK DELETE)\n@ann read $A\n",
-            b"1: refused not built\n2: refused not built\n3: refused not built\n4: refused not built\n5: refused no value A\n",
+            b"1: ok archived 0\n2: refused not built\n3: ok backup 1\n4: ok\n5: refused no value A\n",
         ),
     ]
 }

@@ -5,7 +5,7 @@ use Rattle.meaning_run.specs.Running.{after}
 use Rattle.meaning_system.specs.State.{stored}
 use Rattle.meaning_system.specs.Writes.{opening}
 use Rattle.sys_opening.specs.Begun.{IsOfOpening}
-use Rattle.sys_run.specs.Running.{IsInRun}
+use Rattle.sys_run.specs.Running.{IsInRun, resting}
 use Rattle.datalinks.proofs.Opened.{begins-with}
 use Rattle.datalinks.proofs.Standing.{inside-stands, untouched-stands}
 use Rattle.datalinks.specs.Run.{OpeningFits, journals_behind, lists_behind, run_of}
@@ -26,7 +26,7 @@ returns-in-Ok-clause-recovers g c run begins every =
     (c.command.ensures.history run (begins-with c.args.words.now c.in-Ok.given (g.S.Source.rest c.args.source.now) o run begins c.in-Ok.ensures.exact)) every
     (λ p inside. ⊎_elim
     (λ (before : IsOfOpening run.lists (opening run.folds) o p). c.a_stopped_opening_stands.ensures run.lists run.folds c.args.bench p begins.areas_have every before)
-    (λ (at : OpeningFits run × IsInRun (journals_behind run) (lists_behind run) (run_of run) o.told p). (stored (after at.1.count (run_of run)).state, at.1.recovers))
+    (λ (at : OpeningFits run × IsInRun (journals_behind run) (lists_behind run) (run_of run) o.told p). (stored (resting (after at.1.count (run_of run)) at.1.front), at.1.recovers))
     inside)
 
 pub returns-in-Ok-clause-full : goal.returns-in-Ok-clause-full

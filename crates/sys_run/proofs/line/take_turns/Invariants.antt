@@ -1,4 +1,4 @@
-use Rattle.std.proofs.Common.{◌≤◌, ◌-◌, ℕ, List, [], length, Option}
+use Rattle.std.proofs.Common.{◌≤◌, ◌+◌, ◌-◌, ℕ, List, [], length, Option}
 use Rattle.dl_areas.specs.Lists.{Lists}
 use Rattle.meaning_run.specs.Running.{Read, Run}
 use Rattle.sys_opening.specs.Owned.{journals_of}
@@ -7,12 +7,12 @@ use Rattle.sys_run.specs.Turning.{IsInLine}
 use Rattle.sys_run.proofs.Reached.{Reached}
 use Rattle.sys_run.proofs.line.take_turns.Given as goal
 
-abbrev pub invariant-loop-alloc : goal.invariant-loop-alloc
-invariant-loop-alloc g l = record {
-  few : length l.answers ≤ 5;
+abbrev pub invariant-loop-answers : goal.invariant-loop-answers
+invariant-loop-answers g l = record {
+  few : length l.answers ≤ length l.waiting + 5;
   reached : (first : ℕ) (lists : Lists) (before : Option (List ℕ)) (r : Run) (rd : Read) (more : List Read) → Stands first lists before r l.initial.engine l.initial.sessions (g.B.Bench.outside l.initial.bench) → IsInLine l.number l.line [] r rd more
-      → Reached l.number l.line l.answers first lists before r rd more (journals_of l.initial.engine.owners) l.engine l.sessions (g.B.Bench.outside l.initial.bench) (g.B.Bench.outside l.bench);
+      → Reached l.number l.line l.waiting l.answers first lists before r rd more (journals_of l.initial.engine.owners) l.engine l.sessions (g.B.Bench.outside l.initial.bench) (g.B.Bench.outside l.bench);
 }
 
-abbrev pub decreases-loop-alloc : goal.decreases-loop-alloc
-decreases-loop-alloc g l = 6 - length l.answers
+abbrev pub decreases-loop-answers : goal.decreases-loop-answers
+decreases-loop-answers g l = (length l.waiting + 6) - length l.answers
