@@ -1,5 +1,5 @@
 #!/usr/bin/env python3
-"""Damages the areas of the built program: each of Rows, Links and Files is cut to each length, and each byte of it is inverted. The
+"""Damages the areas of the built program: each of them is cut to each length, and each byte of it is inverted. The
 program ends with status 0 exactly where the five areas still stand for something, else with 5, and leaves the areas as they were then.
 Ends with `N passed, M failed`, and with status 1 where one failed.
 
@@ -7,6 +7,7 @@ Ends with `N passed, M failed`, and with status 1 where one failed.
 
 What areas stand for is said here a second time, from the bytes of records, what the folds refuse, and what the areas are compared for.
 """
+import hashlib
 import os
 import re
 import struct
@@ -14,8 +15,8 @@ import sys
 
 import model
 import scripts
-from model import AREAS, File, Folder, settled
-from model_sql import ARCHIVED, BUILT, Column, Dl, Link, Options, Table, copied, is_path, links_of, without
+from model import AREAS, File, Folder, copy_of, settled
+from model_sql import ARCHIVED, UNARCHIVED, Column, Dl, Link, Options, Table, copied, is_path, links_of, without
 from scripts import EVERY_RECORD, areas_in, check, counts, room, run
 
 
@@ -79,7 +80,7 @@ class Body:
 
     def options(self):
         found = Options(("FS", "DB")[self.u8(1)], ("FS", "BLOCKED")[self.u8(1)], bool(self.u8(1)), ("NONE", "RESTORE", "DELETE")[self.u8(2)])
-        if found not in BUILT + ARCHIVED:
+        if found not in UNARCHIVED + ARCHIVED:
             raise Bad("no option row")
         return found
 
@@ -146,6 +147,18 @@ class Body:
 
     def files_record(self):
         return ("batch", self.u64(), self.listed(self.file)) if self.u8() == 1 else self.bad()
+
+    def archive_record(self):
+        return (self.number(), self.owner(), self.take(32), self.text()) if self.u8() == 1 else self.bad()
+
+    def held_row(self):
+        return self.u64(), tuple(self.listed(self.value))
+
+    def image(self):
+        return self.name(), self.u64(), self.listed(self.column), self.u64(), self.listed(self.held_row)
+
+    def backups_record(self):
+        return (self.u64(), self.u64(), self.listed(self.image)) if self.u8() == 1 else self.bad()
 
 
 def bodies(area):
@@ -214,8 +227,8 @@ def need_fit(tables):
             need(column.rule != "key" or len(set(keys)) == len(keys), "two rows of one key")
 
 
-def changed(tables, changes):
-    """The tables behind the changes of a commit."""
+def changed(tables, changes, commit):
+    """The tables behind the changes of the commit of a number."""
     tables = copied(tables)
     for kind, name, *rest in changes:
         held = [table for table in tables if table.name == name]
@@ -227,7 +240,7 @@ def changed(tables, changes):
             need_columns(rest[0])
             held = [Table(name, rest[0])]
             tables += held
-        held[0].next, rows = rest[-2:]
+        held[0].version, (held[0].next, rows) = commit, rest[-2:]
         need(rises([number for number, _ in rows]), "row numbers that do not rise")
         for number, values in rows:
             if values is None:
@@ -253,7 +266,7 @@ def rows_of(area):
             need(number == len(commits) + 1, "a commit out of order")
             need(tx not in [commit[0] for commit in commits], "a transaction that commits twice")
             need(tx >> 32 == opening, "a transaction of another opening")
-            tables = changed(commits[-1][2] if commits else [], changes)
+            tables = changed(commits[-1][2] if commits else [], changes, number)
             need_fit(tables)
             commits.append((tx, branch, tables))
         else:
@@ -263,7 +276,7 @@ def rows_of(area):
 
 
 def links_of_area(area):
-    """The branches by their transactions, as [phase, gives, takes], and the links that are held."""
+    """The branches by their transactions, as [phase, gives, takes, numbers of takes that are filled], and the links that are held."""
     opening, branches, held = 0, {}, []
     for kind, *of in records(area, Body.links_record):
         if kind == "opening":
@@ -278,7 +291,7 @@ def links_of_area(area):
             need(not any(take.path in paths for take in takes), "a take of a held path")
             need(not any(fill and not link.options.recovery for link, fill in filled), "a fill without recovery")
             need(len({fill for link, fill in filled if link.options.recovery}) <= 1, "some takes are filled")
-            branches[tx] = ["prepared", gives, takes]
+            branches[tx] = ["prepared", gives, takes, [link.number for link, fill in filled if fill]]
         else:
             branch = branches.get(of[0])
             need(branch and branch[0] == ("committed" if kind == "done" else "prepared"), "a branch in another phase")
@@ -303,40 +316,80 @@ def files_of(area):
     return files
 
 
+def copies_of(area):
+    copies = {}
+    for number, owner, digest, content in records(area, Body.archive_record):
+        need(number not in copies, "a link with two copies")
+        need(digest == hashlib.sha256(content.encode("latin-1")).digest(), "a digest of other bytes")
+        copies[number] = File(*owner, content, None)
+    return copies
+
+
+def backups_of(area):
+    """The backups as (number of the commit, images)."""
+    backups = []
+    for number, commit, images in records(area, Body.backups_record):
+        need(number == len(backups) + 1, "a backup out of order")
+        need(len({image[0] for image in images}) == len(images), "two tables of a name")
+        for _, _, _, after, rows in images:
+            need(rises([held for held, _ in rows]), "row numbers that do not rise")
+            need(all(held < after for held, _ in rows), "a row number that is not below the next")
+        backups.append((commit, images))
+    return backups
+
+
 # ---- what they stand for together
+
+
+def image_of(table):
+    """A table as a backup has it: link numbers without their options."""
+    rows = [(number, tuple(cell._replace(options=None) if isinstance(cell, Dl) else cell for cell in values)) for number, values in sorted(table.rows.items())]
+    return table.name, table.version, list(table.columns), table.next, rows
 
 
 def need_together(areas):
     (opening, commits, ended), (branches, held), files = rows_of(areas["rows"]), links_of_area(areas["links"]), files_of(areas["files"])
-    for area in ("archive", "backups"):
-        need(not bodies(areas[area]), "copies and backups are not read here")
+    copies, backups = copies_of(areas["archive"]), backups_of(areas["backups"])
     before, options = [], {}
     for tx, branch, tables in commits:
         after = links_of(tables)
         need(len({link.path for link in after}) == len(after), "two links of a path")
         gives, takes = without(before, after), without(after, before)
         if branch:
-            need(tx in branches and branches[tx][0] != "aborted" and branches[tx][1:] == [gives, takes], "a commit without its branch")
+            need(tx in branches and branches[tx][0] != "aborted" and branches[tx][1:3] == [gives, takes], "a commit without its branch")
         else:
             need(not gives and not takes and tx not in branches, "a commit with a branch")
         for link in after:
             need(options.setdefault(link.number, link) == link, "a link of two paths or options")
         before = after
     order = {tx: i for i, (tx, _, _) in enumerate(commits)}
-    need(all(tx in order for tx, (phase, _, _) in branches.items() if phase in ("committed", "done")), "a branch without its commit")
+    need(all(tx in order for tx, (phase, *_) in branches.items() if phase in ("committed", "done")), "a branch without its commit")
     need(all(branches.get(tx, [""])[0] == "done" for tx in ended), "an end of a branch that is not done")
     numbers = list(branches) + list(order)
-    numbers += [link.number[0] for _, gives, takes in branches.values() for link in gives + takes]
+    numbers += [link.number[0] for _, gives, takes, _ in branches.values() for link in gives + takes]
     numbers += [link.number[0] for _, _, tables in commits for link in links_of(tables)]
     need(all(number >> 32 <= opening for number in numbers), "a transaction of a later opening")
     doubt = {tx: branch for tx, branch in branches.items() if branch[0] in ("prepared", "committed")}
-    paths = [path for _, gives, takes in doubt.values() for path in {link.path for link in gives + takes}]
+    paths = [path for _, gives, takes, _ in doubt.values() for path in {link.path for link in gives + takes}]
     need(len(set(paths)) == len(paths), "branches in doubt of one path")
     for tx in sorted((tx for tx in doubt if tx in order), key=order.get):
         held = [link for link in held if link not in doubt[tx][1]] + doubt[tx][2]
-        files = settled(files, doubt[tx][1], doubt[tx][2])
+        for give in doubt[tx][1]:
+            if give.options.recovery and give.path in files:
+                copies.setdefault(give.number, copy_of(files[give.path]))
+        filled = {number: copies[number] for number in doubt[tx][3] if number in copies}
+        files = settled(files, doubt[tx][1], doubt[tx][2], filled)
     need(sorted(held) == sorted(before), "what is held is not what is linked")
     need(all(link.path in files for link in before), "a link without its file")
+    archived = {number for number, link in options.items() if link.options.recovery}
+    linked = {link.number: link for link in before}
+    need(all(number in archived for number in copies), "a copy of no link that wants one")
+    need(all(number in copies for number in archived if number not in linked), "a link that was let go without its copy")
+    need(all(files[linked[number].path].content == copy.content for number, copy in copies.items() if number in linked), "a copy of other bytes")
+    for commit, images in backups:
+        need(commit <= len(commits), "a backup of a commit that is none")
+        tables = commits[commit - 1][2] if commit else []
+        need(images == [image_of(table) for table in tables], "a backup of other tables")
 
 
 def stands(areas):
@@ -367,7 +420,7 @@ def opened(areas):
 
 def damaged(name, areas):
     assert stands(areas), name
-    for area in ("rows", "links", "files"):
+    for area in AREAS:
         whole = areas[area]
         ways = [(f"cut to {length} bytes", whole[:length]) for length in range(len(whole))]
         ways += [(f"byte {at} inverted", whole[:at] + bytes([whole[at] ^ 255]) + whole[at + 1 :]) for at in range(len(whole))]

@@ -9,10 +9,11 @@ linking INSERT are those that `strace` shows for the same statements: the same w
 areas, and the same syncs, made in the same order by this script over a copy of the same folder. The time of a claim is that of BEGIN, an INSERT
 that links a file into a small table, and ROLLBACK, less that of BEGIN and ROLLBACK, while another table holds 1,000 links, or 60,000 (a
 folder has at most 65,536 files); beside it stands the same INSERT without link control, and a delete that a link forbids, which asks
-what is linked on its path. Times are the best of some runs; those in memory are processor times.
+what is linked on its path: of one file, and of each file by turns, which finds what is asked for in no cache. Times are the best of some
+runs; those in memory are processor times.
 
 It ends with status 1 where a bound is broken: on a disk a linking INSERT takes at most 1.15 times its raw calls, and a claim and a
-refused delete over many links at most 1.3 times what they take over few. Where there is no disk or no `strace`, it says so.
+refused delete of one file over many links at most 1.3 times what they take over few. Where there is no disk or no `strace`, it says so.
 """
 import argparse
 import collections
@@ -148,7 +149,8 @@ def looks(count):
     return {
         "a claim": transactions([link("small", 1, "/free")]),
         "the same INSERT without link control": transactions([link("plain", 1, "/free")]),
-        "a delete that a link forbids": lambda times: [("@ann delete /f/%d" % (i * 7919 % count), "refused linked ..") for i in range(times)],
+        "a delete that a link forbids": lambda times: [("@ann delete /f/%d" % (count // 2), "refused linked ..")] * times,
+        "a delete that a link forbids, of each file by turns": lambda times: [("@ann delete /f/%d" % (i * 7919 % count), "refused linked ..") for i in range(times)],
     }
 
 
@@ -168,7 +170,7 @@ def claims(words):
             shutil.rmtree(folder)
     for name, costs in seen.items():
         ratio = costs[words.many] / costs[words.few]
-        shown = "%.2f times" % ratio if "without" in name else judge("%s over %d links, to %d" % (name, words.many, words.few), ratio, GROWTH)
+        shown = "%.2f times" % ratio if "without" in name or "turns" in name else judge("%s over %d links, to %d" % (name, words.many, words.few), ratio, GROWTH)
         print("  %s: %s the time over %d links" % (name, shown, words.many), flush=True)
 
 

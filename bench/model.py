@@ -11,6 +11,7 @@ raises Unknown, so that no answer is guessed.
 A folder outlives a run as the areas do: `run` on it again is the next run in that folder. With `folder.left = k` a run is
 stopped (Stop) at its record k + 1, before that record counts; the folder then stands as a crash at that moment leaves it.
 """
+import hashlib
 import re
 import struct
 from collections import namedtuple
@@ -115,15 +116,38 @@ def removed_bytes(path):
     return b"\0" + sized(path)
 
 
+def changed_bytes(path, before, after):
+    if after is None:
+        return removed_bytes(path)
+    return kept_bytes(path, after) if before and before.content == after.content else put_bytes(path, after)
+
+
 def batch_bytes(tx, changes):
     return b"\1" + u64(tx) + listed(changes)
+
+
+def copy_bytes(number, copy):
+    content = copy.content.encode("latin-1")
+    return b"\1" + u64(number[0]) + u32(number[1]) + owner_bytes(copy) + hashlib.sha256(content).digest() + sized(copy.content)
+
+
+def image_bytes(table):
+    rows = [u64(number) + listed([value_bytes(value) for value in values]) for number, values in sorted(table.rows.items())]
+    return sized(table.name) + u64(table.version) + listed([column_bytes(column) for column in table.columns]) + u64(table.next) + listed(rows)
 
 
 # ---- files behind a transaction
 
 
-def settled(files, gives, takes):
-    """The files behind a transaction: what it gives and does not take is restored or deleted, what it takes is taken over."""
+def copy_of(file):
+    """What is archived of a file: its bytes, and the owner and flag that it had before it was linked."""
+    owner, writable = file.saved or file[:2]
+    return File(owner, writable, file.content, None)
+
+
+def settled(files, gives, takes, copies):
+    """The files behind a transaction: what it gives and does not take is restored or deleted; what it takes has the bytes of its copy,
+    where `copies` has one by the number of its link, and is taken over."""
     files = dict(files)
     for link in gives:
         file = files.get(link.path)
@@ -134,6 +158,10 @@ def settled(files, gives, takes):
         elif link.options.unlink == "RESTORE":
             owner, writable = file.saved or file[:2]
             files[link.path] = File(owner, writable, file.content, None)
+    for link in takes:
+        if link.number in copies:
+            copy = copies[link.number]
+            files[link.path] = files.get(link.path, copy)._replace(content=copy.content)
     for link in takes:
         file = files.get(link.path)
         if file is None:
@@ -151,12 +179,14 @@ def settled(files, gives, takes):
 
 
 class Folder:
-    """The areas, and what their lists stand for. `undone` are the transactions whose branch the area Links has without its end."""
+    """The areas, and what their lists stand for. `undone` are the transactions whose branch the area Links has without its end,
+    `copies` the archived files by the numbers of their links, `past` the tables before the first commit and after each."""
 
     def __init__(self):
         self.areas = {area: b"" for area in AREAS}
         self.openings = {"rows": 0, "links": 0}
         self.tables, self.commits, self.files, self.undone = [], 0, {}, []
+        self.copies, self.backups, self.past = {}, [], [[]]
         self.left, self.written = None, []
 
     def copy(self):
@@ -164,6 +194,7 @@ class Folder:
         other.areas, other.openings = dict(self.areas), dict(self.openings)
         other.tables, other.commits, other.files = copied(self.tables), self.commits, dict(self.files)
         other.undone = [txn.copy() for txn in self.undone]
+        other.copies, other.backups, other.past = dict(self.copies), list(self.backups), list(self.past)
         return other
 
 
@@ -174,11 +205,13 @@ class Txn:
         self.tx, self.base, self.tables = tx, copied(tables), copied(tables)
         self.named, self.k, self.phase = [], 0, "active"
         self.gives, self.takes, self.commit, self.is_told = [], [], None, False
+        # of a restore: it fills the files of takes with RECOVERY YES from their copies
+        self.fills = False
 
     def copy(self):
         other = Txn(self.tx, [])
         other.base, other.tables, other.named, other.k, other.phase = self.base, self.tables, list(self.named), self.k, self.phase
-        other.gives, other.takes, other.commit, other.is_told = self.gives, self.takes, self.commit, self.is_told
+        other.gives, other.takes, other.commit, other.is_told, other.fills = self.gives, self.takes, self.commit, self.is_told, self.fills
         return other
 
     def has_branch(self):
@@ -186,6 +219,9 @@ class Txn:
 
     def holds(self, path):
         return any(link.path == path for link in self.gives + self.takes)
+
+    def is_filled(self, link):
+        return self.fills and link.options.recovery
 
 
 # ---- one run
@@ -254,11 +290,15 @@ class Run:
         if not txn.is_told:
             self.append("links", b"\3" + u64(txn.tx))
             txn.is_told = True
-        files = settled(folder.files, txn.gives, txn.takes)
+        for give in txn.gives:
+            if give.options.recovery and give.number not in folder.copies:
+                self.store(give)
+        copies = {take.number: folder.copies[take.number] for take in txn.takes if txn.is_filled(take) and take.number in folder.copies}
+        files = settled(folder.files, txn.gives, txn.takes, copies)
         changes = [
-            removed_bytes(path) if path not in files else kept_bytes(path, files[path])
-            for path in sorted(folder.files)
-            if files.get(path) != folder.files[path]
+            changed_bytes(path, folder.files.get(path), files.get(path))
+            for path in sorted({**folder.files, **files})
+            if files.get(path) != folder.files.get(path)
         ]
         if changes:
             self.append("files", batch_bytes(txn.tx, changes))
@@ -266,6 +306,77 @@ class Run:
         self.append("links", b"\4" + u64(txn.tx))
         folder.undone.remove(txn)
         self.append("rows", b"\3" + u64(txn.tx))
+
+    # copies and backups
+
+    def store(self, link):
+        """Archives the file of a link."""
+        copy = copy_of(self.folder.files[link.path])
+        self.append("archive", copy_bytes(link.number, copy))
+        self.folder.copies[link.number] = copy
+
+    def pending(self):
+        """The committed links that wait for a copy: not those that a decided transaction has yet to take over."""
+        taken = [take.number for txn in self.sessions.values() if txn and txn.phase == "decided" for take in txn.takes]
+        links = links_of(self.folder.tables)
+        return [link for link in links if link.options.recovery and link.number not in self.folder.copies and link.number not in taken]
+
+    def archive(self):
+        links = self.pending()
+        for link in links:
+            self.store(link)
+        return [f"ok archived {len(links)}"]
+
+    def backup(self):
+        self.archive()
+        unfinished = [txn.tx for txn in self.sessions.values() if txn and txn.phase in ("prepared", "decided")]
+        if unfinished:
+            raise Refused(f"unfinished {tx_text(min(unfinished))}")
+        folder, number = self.folder, len(self.folder.backups) + 1
+        self.append("backups", b"\1" + u64(number) + u64(folder.commits) + listed([image_bytes(table) for table in folder.tables]))
+        folder.backups.append((folder.commits, copied(folder.tables)))
+        return [f"ok backup {number}"]
+
+    # a restore
+
+    def target(self, kind, number):
+        kept = [tables for _, tables in self.folder.backups] if kind == "backup" else self.folder.past
+        at = number - 1 if kind == "backup" else number
+        if not 0 <= at < len(kept):
+            raise Refused(f"no target {number}")
+        return copied(kept[at])
+
+    def restore(self, kind, number):
+        for name in self.actors:
+            if self.sessions.get(name):
+                raise Refused(f"session busy {name}")
+        folder, later = self.folder, self.target(kind, number)
+        now = links_of(folder.tables)
+        gives, takes = without(now, links_of(later)), without(links_of(later), now)
+        gone = [take.number for take in takes if not take.options.recovery and take.path not in folder.files]
+        spared = [give.path for give in gives if give.options.recovery]
+        for take in takes:
+            file, copy = folder.files.get(take.path), folder.copies.get(take.number)
+            if take.options.recovery and file and copy and file.content != copy.content and take.path not in spared:
+                raise Refused(f"in the way {take.path}")
+        self.drawn += 1
+        txn = Txn((folder.openings["rows"] << 32) + self.drawn, [])
+        lost = [line for table in later for line in lose(table, gone)]
+        target = {table.name: table for table in later}
+        kept = [(table, target[table.name]) for table in folder.tables if is_kept(table, target.get(table.name))]
+        names = [was.name for was, _ in kept]
+        new = [table for table in later if table.name not in names]
+        restored = [table for _, table in kept] + new
+        txn.gives, txn.takes, txn.fills = gives, without(links_of(restored), now), True
+        self.vote(txn)
+        self.write_commit(txn, [table.name for table in folder.tables if table.name not in names], kept, new)
+        for table in restored:
+            table.version = folder.commits + 1
+        folder.tables = restored
+        self.committed(txn)
+        if txn.has_branch():
+            self.settle(txn)
+        return [f"ok commit {txn.commit}"] + lost
 
     # links
 
@@ -356,12 +467,16 @@ class Run:
         for take in txn.takes:
             if take.path not in self.folder.files:
                 raise Refused(f"no file {take.path}")
-        if txn.has_branch():
-            takes = [link_bytes(link) + b"\0" for link in txn.takes]
-            self.append("links", b"\2" + u64(txn.tx) + listed([link_bytes(link) for link in txn.gives]) + listed(takes))
-            self.folder.undone.append(txn)
+        self.vote(txn)
         txn.phase = "prepared"
         return ["ok"]
+
+    def vote(self, txn):
+        """The branch of a transaction, where it gives or takes a link."""
+        if txn.has_branch():
+            takes = [link_bytes(link) + bytes([txn.is_filled(link)]) for link in txn.takes]
+            self.append("links", b"\2" + u64(txn.tx) + listed([link_bytes(link) for link in txn.gives]) + listed(takes))
+            self.folder.undone.append(txn)
 
     def decide(self, name):
         txn = self.in_phase(name, "prepared")
@@ -379,21 +494,32 @@ class Run:
         dropped = [name for name in base if name not in kept]
         differing = [table for table in kept.values() if table.as_list() != base[table.name].as_list()]
         new = [table for table in txn.tables if table.version == 0]
-        changes = [sized(name) + b"\0" for name in dropped]
-        changes += [sized(table.name) + b"\2" + u64(table.next) + rows_changed(base[table.name], table) for table in differing]
-        changes += [
-            sized(table.name) + b"\1" + listed([column_bytes(column) for column in table.columns]) + u64(table.next)
-            + rows_changed(None, table)
-            for table in new
-        ]
-        self.append("rows", b"\2" + u64(txn.tx) + u64(number) + bytes([txn.has_branch()]) + listed(changes))
+        self.write_commit(txn, dropped, [(base[table.name], table) for table in differing], new)
         changed = {table.name: table.copy() for table in differing}
         made = [table.copy() for table in new]
         for table in list(changed.values()) + made:
             table.version = number
         folder.tables = [changed.get(table.name, table) for table in folder.tables if table.name not in dropped] + made
-        folder.commits, txn.commit, txn.phase = number, number, "decided"
+        self.committed(txn)
+        txn.phase = "decided"
         return [f"ok commit {number}"]
+
+    def committed(self, txn):
+        folder = self.folder
+        folder.commits += 1
+        txn.commit = folder.commits
+        folder.past.append(copied(folder.tables))
+
+    def write_commit(self, txn, dropped, kept, new):
+        """The record of the next commit: names of dropped tables, kept ones as they were and are, and new ones."""
+        changes = [sized(name) + b"\0" for name in dropped]
+        changes += [sized(table.name) + b"\2" + u64(table.next) + rows_changed(was, table) for was, table in kept]
+        changes += [
+            sized(table.name) + b"\1" + listed([column_bytes(column) for column in table.columns]) + u64(table.next)
+            + rows_changed(None, table)
+            for table in new
+        ]
+        self.append("rows", b"\2" + u64(txn.tx) + u64(self.folder.commits + 1) + bytes([txn.has_branch()]) + listed(changes))
 
     def finish(self, name):
         txn = self.in_phase(name, "decided")
@@ -430,8 +556,6 @@ class Run:
             return self.commit(name)
         if tree == ("rollback",):
             return self.roll_back(name)
-        if tree[0] == "create" and any(isinstance(column.kind, Options) and column.kind.recovery for column in tree[2]):
-            raise Refused("not built")
         return self.statement(name, tree) if self.sessions.get(name) else self.alone(name, tree)
 
     def commit(self, name):
@@ -465,7 +589,11 @@ class Run:
         if len(words) == 2 and words[0] == "tick" and re.fullmatch("[0-9]{1,10}", words[1]) and int(words[1]) <= 1_000_000_000:
             self.moment = min(self.moment + int(words[1]), GREATEST)
             return ["ok"]
-        if not re.fullmatch("archive|backup|resolve|crash (manager|database|both)|restore (backup|commit) [0-9]{1,10}", " ".join(words)):
+        if words in (["archive"], ["backup"]):
+            return self.archive() if words == ["archive"] else self.backup()
+        if len(words) == 3 and words[0] == "restore" and words[1] in ("backup", "commit") and re.fullmatch("[0-9]{1,10}", words[2]):
+            return self.restore(words[1], int(words[2]))
+        if not re.fullmatch("resolve|crash (manager|database|both)", " ".join(words)):
             raise Unknown(text)
         raise Refused("not built")
 
@@ -629,6 +757,22 @@ class Run:
         lines = text.split("\n")
         for number, line in enumerate(lines, 1):
             yield self.told(number, line[:-1] if line.endswith("\r") and number < len(lines) else line)
+
+
+def is_kept(table, later):
+    """Whether a restore keeps a table: the later one has the same columns."""
+    return later is not None and later.columns == table.columns
+
+
+def lose(table, gone):
+    """Makes the cells with these links NULL, and tells of each."""
+    lines = []
+    for number, values in sorted(table.rows.items()):
+        cells = list(zip(table.columns, values))
+        lost = [isinstance(column.kind, Options) and cell is not None and cell.link in gone for column, cell in cells]
+        lines += [f"lost {table.name} {number} {column.name} {cell.path}" for (column, cell), is_lost in zip(cells, lost) if is_lost]
+        table.rows[number] = tuple(None if is_lost else cell for (_, cell), is_lost in zip(cells, lost))
+    return lines
 
 
 def rows_changed(base, table):

@@ -24,7 +24,7 @@ import tempfile
 
 import model
 from model import AREAS, Folder, Full
-from model_sql import BUILT, Unknown, mac
+from model_sql import ARCHIVED, UNARCHIVED, Unknown, mac
 from tables import Script, control, dl, table, tokens_of
 
 ROOT = pathlib.Path(__file__).resolve().parent.parent
@@ -197,7 +197,7 @@ EVERY_RECORD = "".join(
     line + "\n"
     for line in [
         "@ann create /a one",
-        "A: " + table("m", BUILT[3]),
+        "A: " + table("m", UNARCHIVED[3]),
         f"A: INSERT INTO m VALUES (1, {dl('/a')})",
         "@ann delete /a",
         "A: BEGIN",
@@ -218,6 +218,14 @@ EVERY_RECORD = "".join(
         "B: INSERT INTO m VALUES (4, NULL)",
         "B: COMMIT",
         "A: DROP TABLE m",
+        "@ann create /c three",
+        "A: " + table("r", ARCHIVED[2]),
+        f"A: INSERT INTO r VALUES (1, {dl('/c')})",
+        "! archive",
+        "@ann create /d four",
+        f"A: UPDATE r SET f = {dl('/d')}",
+        "A: DELETE FROM r",
+        "! backup",
     ]
 )
 LOOK = "@bob list\nA: SELECT id, f FROM m\nA: BEGIN\nA: ROLLBACK\n"
@@ -275,7 +283,7 @@ def forged_tokens():
 def forged():
     """Each of these tokens is refused, among good ones that are not."""
     words = f"run --now 100 --life 60 --key {KEY}"
-    lines = ["@ann create /a one", "A: " + table("m", BUILT[2]), f"A: INSERT INTO m VALUES (1, {dl('/a')})", "A: SELECT DLURLPATH(f) FROM m"]
+    lines = ["@ann create /a one", "A: " + table("m", UNARCHIVED[2]), f"A: INSERT INTO m VALUES (1, {dl('/a')})", "A: SELECT DLURLPATH(f) FROM m"]
     good = f"/160.{mac(bytes.fromhex(KEY), '/a', (2**32 + 2, 1), 160)};a"
     wanted = ["1: ok", "2: ok", "3: ok 1", "4: rows 1", f"4| '{good}'"]
     made = set()
@@ -304,7 +312,7 @@ def forged():
 
 # ---- scripts by chance
 
-LINKING = {"m": BUILT[2], "n": BUILT[0], "o": BUILT[1], "p": BUILT[3]}
+LINKING = dict(zip("nompqrs", UNARCHIVED + ARCHIVED))
 PATHS = ["/a", "/b", "/c", "/d/1.e;f"]
 STEPS = ["BEGIN", "COMMIT", "ROLLBACK", "!prepare", "!decide", "!finish"]
 LIKELY = {
@@ -325,7 +333,7 @@ def a_command(dice, script):
     return f"@{user} " + form.format(p=path, q=dice.choice(PATHS), x="x" * dice.randint(0, 5))
 
 
-WIDE = f"CREATE TABLE w (id INTEGER PRIMARY KEY, s VARCHAR(3) NOT NULL, f {control(BUILT[2])}, g {control(BUILT[0])}, h DATALINK)"
+WIDE = f"CREATE TABLE w (id INTEGER PRIMARY KEY, s VARCHAR(3) NOT NULL, f {control(UNARCHIVED[2])}, g {control(UNARCHIVED[0])}, h DATALINK)"
 
 
 def a_wide_statement(dice):
@@ -349,7 +357,7 @@ def a_wide_statement(dice):
 
 
 def a_statement(dice, tables):
-    name = dice.choice(["m", "n", "o", "p", "t", "w"])
+    name = dice.choice("mnopqrstw")
     is_there = any(held.name == name for held in tables)
     if (not is_there and dice.random() < 0.8) or dice.random() < 0.02:
         return {"t": "CREATE TABLE t (x INTEGER)", "w": WIDE}.get(name) or table(name, LINKING[name])
@@ -385,6 +393,10 @@ def a_statement(dice, tables):
 def a_line(dice, script):
     if has_ticks and dice.random() < 0.04:
         return f"! tick {dice.choice((0, 1, 30, 61))}"
+    if dice.random() < 0.04:
+        return dice.choice(("! archive", "! archive", "! backup"))
+    if dice.random() < 0.06:
+        return dice.choice((f"! restore backup {dice.randint(0, 3)}", f"! restore commit {dice.randint(0, script.folder.commits + 1)}"))
     if dice.random() < 0.4:
         return a_command(dice, script)
     name = dice.choice("ABC")

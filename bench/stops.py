@@ -21,7 +21,7 @@ import sys
 import model
 import scripts
 from model import AREAS, Folder, Stop, u64
-from model_sql import BUILT
+from model_sql import ARCHIVED, UNARCHIVED
 from scripts import EVERY_RECORD, LOOK, areas_in, check, counts, room, run
 
 # A transaction that gives and takes at once: its Finish has each kind of record, and changes two files.
@@ -30,8 +30,8 @@ MOVED = "".join(
     for line in [
         "@ann create /a one",
         "@ann create /b two",
-        "A: " + scripts.table("m", BUILT[3]),
-        "A: " + scripts.table("n", BUILT[2]),
+        "A: " + scripts.table("m", UNARCHIVED[3]),
+        "A: " + scripts.table("n", UNARCHIVED[2]),
         f"A: INSERT INTO m VALUES (1, {scripts.dl('/a')})",
         "A: BEGIN",
         "A: DELETE FROM m",
@@ -44,6 +44,22 @@ MOVED = "".join(
         "A: !finish",
         "B: COMMIT",
         f"A: UPDATE n SET f = NULL",
+    ]
+)
+# A restore that brings a file back from its copy, gives another back to its user, and drops a table; and one that undoes it.
+RESTORED = "".join(
+    line + "\n"
+    for line in [
+        "@ann create /a one",
+        "@ann create /b two",
+        "A: " + scripts.table("m", ARCHIVED[2]),
+        f"A: INSERT INTO m VALUES (1, {scripts.dl('/a')})",
+        "! backup",
+        "A: DELETE FROM m",
+        "A: " + scripts.table("n", UNARCHIVED[2]),
+        f"A: INSERT INTO n VALUES (1, {scripts.dl('/b')})",
+        "! restore backup 1",
+        "! restore commit 5",
     ]
 )
 LOOKS = LOOK + "A: SELECT id, f FROM n\n@ann read /a\n@ann read /b\n"
@@ -218,7 +234,7 @@ def interrupted(name, text, calls):
 
 def main():
     scripts.program = os.path.abspath(sys.argv[1]) if len(sys.argv) > 1 else str(scripts.BUILT_PROGRAM)
-    for name, text in (("every record", EVERY_RECORD), ("one file for another", MOVED)):
+    for name, text in (("every record", EVERY_RECORD), ("one file for another", MOVED), ("a restore", RESTORED)):
         made(name, text)
         if shutil.which("strace"):
             calls = stopped(name, text, "signal=KILL", -signal.SIGKILL)

@@ -14,7 +14,7 @@ import sys
 
 import model
 from model import Folder, Run
-from model_sql import BUILT, Unknown, links_of, mac, with_token
+from model_sql import ARCHIVED, UNARCHIVED, Unknown, links_of, mac, with_token
 
 SCRIPTS = pathlib.Path(__file__).resolve().parent / "scripts"
 PROGRAM = SCRIPTS.parent.parent / "crates" / "datalinks_main"
@@ -124,7 +124,7 @@ def as_wanted(script):
 
 def session_steps(script):
     script.note("Each step of a session, in each phase of its transaction, behind several kinds of work.")
-    script.add("@ann create /a one", "@ann create /b two", "@ann create /c three", "A: " + table("m", BUILT[1]))
+    script.add("@ann create /a one", "@ann create /b two", "@ann create /c three", "A: " + table("m", UNARCHIVED[1]))
     cases = [("no transaction", [])]
     for phase, then in PHASES.items():
         cases += [(f"{phase}, {work}", ["A: BEGIN"] + done + then) for work, done in WORK.items() if (phase, work) != ("decided", "nothing done")]
@@ -175,7 +175,7 @@ OTHERS = [
     ([], ["@ann rename /a /c"]),
     ([], ["@ann delete /a"]),
 ]
-HELD_TABLES = (("m", BUILT[1]), ("n", BUILT[0]), ("k", BUILT[2]))
+HELD_TABLES = (("m", UNARCHIVED[1]), ("n", UNARCHIVED[0]), ("k", UNARCHIVED[2]))
 
 
 def emptied(script):
@@ -270,10 +270,10 @@ def files_under_options(script, has_tokens=True):
     script.note("A transaction gives a file that one column links, takes it for another, or both: what each command on it of ann, whose")
     script.note("file it was, and of bob is told in each phase" + (", also with tokens: good, of another expiry, and expired." if has_tokens else "."))
     script.add("@ann create /ann", "@bob create /bob")
-    for i, options in enumerate(BUILT):
+    for i, options in enumerate(UNARCHIVED):
         script.add(f"A: {table(f'g{i}', options)}", f"A: {table(f't{i}', options)}")
-    for i, giver in enumerate((None,) + BUILT):
-        for j, taker in enumerate((None,) + BUILT):
+    for i, giver in enumerate((None,) + UNARCHIVED):
+        for j, taker in enumerate((None,) + UNARCHIVED):
             if giver is None and taker is None:
                 continue
             path = f"/{i}{j}"
@@ -298,12 +298,57 @@ def files_under_options(script, has_tokens=True):
                 script.add(f"@{script.folder.files[path].owner} delete {path}")
 
 
+# ---- files of columns with RECOVERY YES
+
+def copies(script):
+    script.note("Copies and backups: what waits for a copy, what a link that ends leaves, and what refuses a backup.")
+    script.add("@ann create /reel abc", "@ann create /print one")
+    script.add("A: " + table("reels", ARCHIVED[2]), "A: " + table("prints", ARCHIVED[0]))
+    script.add("! archive", "A: INSERT INTO reels VALUES (1, L(/reel))", "A: INSERT INTO prints VALUES (1, L(/print))", "! archive", "! archive")
+    script.add("A: UPDATE reels SET f = NULL", "@ann read /reel", "A: DELETE FROM prints", "@ann write /print two")
+    script.add("A: INSERT INTO prints VALUES (2, L(/print))", "! backup", "! archive", "!  backup")
+    for step in ("A: BEGIN", "A: UPDATE prints SET id = 3", "A: UPDATE prints SET f = NULL", "A: !prepare", "A: !decide", "A: !finish"):
+        script.add(step, "! archive", "! backup")
+    script.add("A: DROP TABLE prints", "A: DROP TABLE reels", "! archive", "@ann list", "@ann delete /print")
+
+
+# What becomes of a file behind the end of its link, before the link is brought back.
+BEHIND = {
+    "left": [],
+    "deleted": ["@ann delete /p"],
+    "of other bytes": ["@ann write /p other"],
+    "made anew": ["@ann delete /p", "@bob create /p one"],
+    "another's": ["@ann create /p two", "A: INSERT INTO n VALUES (1, L(/p))"],
+}
+
+
+def restores(script, under=UNARCHIVED + ARCHIVED):
+    script.note("A link ends, its file is left, deleted, written, made anew or linked by another row, and a restore brings the link back and")
+    script.note("takes it away again, archived before or not.")
+    script.add("A: " + table("n", UNARCHIVED[0]))
+    for options in under:
+        script.add("A: " + table("m", options))
+        for archived in ([], ["! archive"])[: 1 + options.recovery]:
+            for behind, lines in BEHIND.items():
+                script.note(f"{option_words(options)}{', RECOVERY YES' if options.recovery else ''}{', archived' if archived else ''}: {behind}")
+                before = script.folder.commits
+                script.add("@ann create /p one", "A: INSERT INTO m VALUES (1, L(/p))", *archived, "A: DELETE FROM m", *lines)
+                script.add(f"! restore commit {before + 1}", "A: SELECT id, f FROM m", "A: SELECT id, f FROM n", "@bob list", "@ann write /p three")
+                script.add(f"! restore commit {before}", "A: SELECT COUNT(*) FROM m", "@bob list", "! archive")
+                script.add("A: DELETE FROM m", "A: DELETE FROM n")
+                script.add(*(f"@{file.owner} delete {path}" for path, file in list(script.folder.files.items()) if path == "/p"))
+        script.add("A: DROP TABLE m")
+    script.add("A: DROP TABLE n")
+
+
 # ---- all of them
 
 TABLES = {
     "each_step_in_each_phase": (session_steps, "run"),
     "another_on_a_held_file": (held_files, "run"),
     "each_option_by_each_command": (files_under_options, "run --now 100 --life 60"),
+    "copies_and_backups": (copies, "run"),
+    "each_restore": (restores, "run"),
 }
 
 
@@ -323,8 +368,6 @@ def answered(told):
 
 def done(run, line, answer):
     """Has the model do a line that was answered so. Of one that it does not know it is enough that it changed nothing that lasts."""
-    if line.startswith("!") and answer == ["refused not built"]:
-        return
     drawn = run.drawn
     try:
         if run.line(line) != answer:
@@ -359,6 +402,9 @@ def stored_run():
     session_steps(script)
     script.add("A: DROP TABLE m", "A: DROP TABLE t", "@ann delete /a", "@ann delete /b", "@ann delete /c")
     files_under_options(script, has_tokens=False)
+    script.add(*(f"A: DROP TABLE {held.name}" for held in list(script.folder.tables)))
+    copies(script)
+    restores(script, (UNARCHIVED[1], ARCHIVED[2]))
     script.add("@ann create /film/2.mpg x")
     script.add(last)
     return "\n".join(script.lines), script.answers()
