@@ -1,3 +1,4 @@
 pub mod Controlled
 pub mod Behind
 pub mod Running
+pub mod Settled

@@ -1,16 +1,16 @@
 -- Links, and files under their control, between two steps.
-use Rattle.std.specs.Prelude.{◌≡◌, ◌⊎◌, ℕ, ◌+◌, ◌^◌, ◌<◌, true, false, List, [], ◌∷◌, is_some, Some}
+use Rattle.std.specs.Prelude.{◌≡◌, ◌⊎◌, ℕ, true, false, List, [], ◌∷◌, filter, is_some, Some}
 use Rattle.std.specs.FinMap as maps
 use Rattle.dl_base.specs.declared.step.Step.{Step}
-use Rattle.dl_base.specs.declared.step.Step.TheVariants as steps
-use Rattle.dl_base.specs.declared.step.Target.{Target}
 use Rattle.dl_base.specs.declared.value.LinkRow.{LinkRow}
 use Rattle.fm_pieces.specs.Keeping.{AreThere}
+use Rattle.meaning_areas.specs.Commits.{tables_after}
+use Rattle.meaning_areas.specs.Stands.{Stored}
 use Rattle.meaning_merge.specs.Touching.{In, OnePath}
+use Rattle.meaning_settling.specs.Keyed.{is_at}
 use Rattle.meaning_settling.specs.Settling.{on}
 use Rattle.meaning_tables.specs.Links.{links}
 use Rattle.meaning_system.specs.Commands.{forbidding}
-use Rattle.meaning_system.specs.Following.{AreRestored}
 use Rattle.meaning_system.specs.Machine.{step}
 use Rattle.meaning_system.specs.State.{State, Txn, is_active, moved_of, tables_of}
 
@@ -40,12 +40,11 @@ pub record IsControlled (s : State) : Type 0 where
   pub guards : (path : List ℕ) → AreGuards s path (forbidding s path)
   pub files : (path : List ℕ) (l : LinkRow) → In l (forbidding s path) → is_some (maps.get s.files path) ≡ true
 
--- before each of some steps a number is left to draw, and a restore has its own premise
-abbrev pub MayTake : State → List Step → Type 0
-MayTake s [] = Unit {0}
-MayTake s (x ∷ xs) = (s.drawn + 1 < 2 ^ 32) × ((t : Target) → x ≡ steps.Restore t → AreRestored s t) × MayTake (step s x).1 xs
-
 -- BEFORE AND AFTER EACH of some steps the state is under control
 abbrev pub AreControlled : State → List Step → Type 0
 AreControlled s [] = IsControlled s
 AreControlled s (x ∷ xs) = IsControlled s × AreControlled (step s x).1 xs
+
+-- THE COMMITTED LINKS ON A PATH, of what areas stand for
+abbrev pub committed_at : Stored → List ℕ → List LinkRow
+committed_at x path = filter (λ l. is_at path l.path) (links (tables_after [] x.commits))

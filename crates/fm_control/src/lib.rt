@@ -3,4 +3,6 @@
 
 mod laws;
 
-pub use laws::{every_step_leaves_files_under_control, files_are_under_control};
+pub use laws::{
+    every_step_leaves_files_under_control, files_are_under_control, settled_files_are_under_control,
+};
