@@ -1,0 +1,5 @@
+mod Held
+mod Lasting
+mod Promised
+mod Staying
+mod Unused

@@ -1,0 +1,5 @@
+pub mod Later
+pub mod Leaving
+pub mod Placed
+pub mod Still
+pub mod Votes
