@@ -62,7 +62,43 @@ RESTORED = "".join(
         "! restore commit 5",
     ]
 )
+# A file whose link wants a copy: a transaction lets it go and links it anew, so that a copy is made, and another one in the end.
+COPIED = "".join(
+    line + "\n"
+    for line in [
+        "@ann create /a abc",
+        "A: " + scripts.table("m", ARCHIVED[2]),
+        f"A: INSERT INTO m VALUES (1, {scripts.dl('/a')})",
+        "A: BEGIN",
+        "A: DELETE FROM m WHERE id = 1",
+        f"A: INSERT INTO m VALUES (2, {scripts.dl('/a')})",
+        "A: COMMIT",
+        "@ann list",
+        "! archive",
+    ]
+)
+# One that is deleted with its row, and comes back from its copy with a restore.
+BROUGHT_BACK = "".join(
+    line + "\n"
+    for line in [
+        "@ann create /a abc",
+        "A: " + scripts.table("m", ARCHIVED[2]),
+        f"A: INSERT INTO m VALUES (1, {scripts.dl('/a')})",
+        "A: DELETE FROM m",
+        "@ann read /a",
+        "! restore commit 2",
+    ]
+)
 LOOKS = LOOK + "A: SELECT id, f FROM n\n@ann read /a\n@ann read /b\n"
+
+
+SCRIPTS = (
+    ("every record", EVERY_RECORD),
+    ("one file for another", MOVED),
+    ("a restore", RESTORED),
+    ("a file that is copied", COPIED),
+    ("a file that is brought back", BROUGHT_BACK),
+)
 
 
 def closed(area):
@@ -234,7 +270,7 @@ def interrupted(name, text, calls):
 
 def main():
     scripts.program = os.path.abspath(sys.argv[1]) if len(sys.argv) > 1 else str(scripts.BUILT_PROGRAM)
-    for name, text in (("every record", EVERY_RECORD), ("one file for another", MOVED), ("a restore", RESTORED)):
+    for name, text in SCRIPTS:
         made(name, text)
         if shutil.which("strace"):
             calls = stopped(name, text, "signal=KILL", -signal.SIGKILL)
