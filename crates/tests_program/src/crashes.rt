@@ -6,61 +6,108 @@ use dl_base::{Area, List};
 use dl_bench::{Call, MemoryBench, Pick};
 use std::alloc::Global;
 
+/// A script, all that it tells, and the look at what stands behind a stop of it: what that look tells where so many of the steps are there,
+/// how many bytes are told before the line whose step leads there, and how many once it is told.
+#[derive(Drop)]
+struct Case {
+    script: &'static [u8],
+    text: &'static [u8],
+    look: &'static [u8],
+    looks: [&'static [u8]; 6],
+    told_before: [usize; 6],
+    told_behind: [usize; 6],
+}
+
 /// A file, a row that links it, a transaction that lets it go with its vote, its decision and its Finish as lines of their own, and one that
-/// is rolled back behind its vote.
-fn script() -> &'static [u8] {
-    b"@ann create /a one\n\
-      A: CREATE TABLE m (id INTEGER PRIMARY KEY, f DATALINK LINKTYPE URL FILE LINK CONTROL INTEGRITY ALL READ PERMISSION DB WRITE PERMISSION BLOCKED RECOVERY NO ON UNLINK DELETE)\n\
-      A: INSERT INTO m VALUES (1, DLVALUE('http://fs1/a'))\n\
-      @ann delete /a\n\
-      A: BEGIN\n\
-      A: DELETE FROM m\n\
-      A: !prepare\n\
-      A: !decide\n\
-      A: !finish\n\
-      @ann create /a two\n\
-      A: BEGIN\n\
-      A: INSERT INTO m VALUES (2, DLVALUE('http://fs1/a'))\n\
-      A: !prepare\n\
-      A: ROLLBACK\n"
+/// is rolled back behind its vote. Found are no steps, the file, the table, the row, none of them again, and the second file, behind which
+/// nothing is to be seen. The texts of the first two differ from no table at all.
+fn let_go() -> Case {
+    Case {
+        script: b"@ann create /a one\n\
+          A: CREATE TABLE m (id INTEGER PRIMARY KEY, f DATALINK LINKTYPE URL FILE LINK CONTROL INTEGRITY ALL READ PERMISSION DB WRITE PERMISSION BLOCKED RECOVERY NO ON UNLINK DELETE)\n\
+          A: INSERT INTO m VALUES (1, DLVALUE('http://fs1/a'))\n\
+          @ann delete /a\n\
+          A: BEGIN\n\
+          A: DELETE FROM m\n\
+          A: !prepare\n\
+          A: !decide\n\
+          A: !finish\n\
+          @ann create /a two\n\
+          A: BEGIN\n\
+          A: INSERT INTO m VALUES (2, DLVALUE('http://fs1/a'))\n\
+          A: !prepare\n\
+          A: ROLLBACK\n",
+        text: b"1: ok\n2: ok\n3: ok 1\n4: refused linked /a 1-2-1 delete\n5: ok 1-3\n6: ok 1\n7: ok\n8: ok commit 3\n9: ok\n10: ok\n\
+          11: ok 1-4\n12: ok 1\n13: ok\n14: ok\n",
+        look: b"@ann list\nA: SELECT COUNT(*) FROM m\n",
+        looks: [
+            b"1: ok files 0\n2: refused no table m\n",
+            b"1: ok files 1\n1| /a ann on 3\n2: refused no table m\n",
+            b"1: ok files 1\n1| /a ann on 3\n2: rows 1\n2| 0\n",
+            b"1: ok files 1\n1| /a dlfm off 3\n2: rows 1\n2| 1\n",
+            b"1: ok files 0\n2: rows 1\n2| 0\n",
+            b"1: ok files 1\n1| /a ann on 3\n2: rows 1\n2| 0\n",
+        ],
+        told_before: [0, 0, 6, 12, 78, 99],
+        told_behind: [0, 6, 12, 20, 93, 106],
+    }
 }
 
-fn text() -> &'static [u8] {
-    b"1: ok\n2: ok\n3: ok 1\n4: refused linked /a 1-2-1 delete\n5: ok 1-3\n6: ok 1\n7: ok\n8: ok commit 3\n9: ok\n10: ok\n\
-      11: ok 1-4\n12: ok 1\n13: ok\n14: ok\n"
+/// A file that is archived when a transaction lets it go and links it anew, and once more at the end. Found are no steps, the file, the table,
+/// the row, the other row, whose link wants a copy as the first did, and that copy.
+fn archived() -> Case {
+    Case {
+        script: b"@ann create /a abc\n\
+          A: CREATE TABLE m (id INTEGER PRIMARY KEY, f DATALINK LINKTYPE URL FILE LINK CONTROL INTEGRITY ALL READ PERMISSION DB WRITE PERMISSION BLOCKED RECOVERY YES ON UNLINK DELETE)\n\
+          A: INSERT INTO m VALUES (1, DLVALUE('http://fs1/a'))\n\
+          A: BEGIN\n\
+          A: DELETE FROM m WHERE id = 1\n\
+          A: INSERT INTO m VALUES (2, DLVALUE('http://fs1/a'))\n\
+          A: COMMIT\n\
+          @ann list\n\
+          ! archive\n",
+        text: b"1: ok\n2: ok\n3: ok 1\n4: ok 1-3\n5: ok 1\n6: ok 1\n7: ok commit 3\n8: ok files 1\n8| /a dlfm off 3\n9: ok archived 1\n",
+        look: b"@ann list\nA: SELECT id FROM m\n! archive\n",
+        looks: [
+            b"1: ok files 0\n2: refused no table m\n3: ok archived 0\n",
+            b"1: ok files 1\n1| /a ann on 3\n2: refused no table m\n3: ok archived 0\n",
+            b"1: ok files 1\n1| /a ann on 3\n2: rows 0\n3: ok archived 0\n",
+            b"1: ok files 1\n1| /a dlfm off 3\n2: rows 1\n2| 1\n3: ok archived 1\n",
+            b"1: ok files 1\n1| /a dlfm off 3\n2: rows 1\n2| 2\n3: ok archived 1\n",
+            b"1: ok files 1\n1| /a dlfm off 3\n2: rows 1\n2| 2\n3: ok archived 0\n",
+        ],
+        told_before: [0, 0, 6, 12, 46, 92],
+        told_behind: [0, 6, 12, 20, 61, 109],
+    }
 }
 
-/// What is found by a look at files and rows, which tells how many of the steps are there: none, the file, the table, the row, none of
-/// them again, and the second file, behind which nothing is to be seen. The texts of the first two differ from no table at all.
-fn looks() -> [&'static [u8]; 6] {
-    [
-        b"1: ok files 0\n2: refused no table m\n",
-        b"1: ok files 1\n1| /a ann on 3\n2: refused no table m\n",
-        b"1: ok files 1\n1| /a ann on 3\n2: rows 1\n2| 0\n",
-        b"1: ok files 1\n1| /a dlfm off 3\n2: rows 1\n2| 1\n",
-        b"1: ok files 0\n2: rows 1\n2| 0\n",
-        b"1: ok files 1\n1| /a ann on 3\n2: rows 1\n2| 0\n",
-    ]
+/// A file that is deleted with its row, and comes back from its copy with a restore. Found are no steps, the file, the table, the row, neither
+/// row nor file, and both again, with the copy that was made then.
+fn restored() -> Case {
+    Case {
+        script: b"@ann create /a abc\n\
+          A: CREATE TABLE m (id INTEGER PRIMARY KEY, f DATALINK LINKTYPE URL FILE LINK CONTROL INTEGRITY ALL READ PERMISSION DB WRITE PERMISSION BLOCKED RECOVERY YES ON UNLINK DELETE)\n\
+          A: INSERT INTO m VALUES (1, DLVALUE('http://fs1/a'))\n\
+          A: DELETE FROM m\n\
+          @ann read /a\n\
+          ! restore commit 2\n",
+        text: b"1: ok\n2: ok\n3: ok 1\n4: ok 1\n5: refused no file /a\n6: ok commit 4\n",
+        look: b"@ann list\nA: SELECT id FROM m\n! archive\n",
+        looks: [
+            b"1: ok files 0\n2: refused no table m\n3: ok archived 0\n",
+            b"1: ok files 1\n1| /a ann on 3\n2: refused no table m\n3: ok archived 0\n",
+            b"1: ok files 1\n1| /a ann on 3\n2: rows 0\n3: ok archived 0\n",
+            b"1: ok files 1\n1| /a dlfm off 3\n2: rows 1\n2| 1\n3: ok archived 1\n",
+            b"1: ok files 0\n2: rows 0\n3: ok archived 0\n",
+            b"1: ok files 1\n1| /a dlfm off 3\n2: rows 1\n2| 1\n3: ok archived 0\n",
+        ],
+        told_before: [0, 0, 6, 12, 20, 50],
+        told_behind: [0, 6, 12, 20, 28, 65],
+    }
 }
-
-/// How many bytes are told before each of the lines whose steps lead to these, and how many once they are told.
-fn told_before() -> [usize; 6] {
-    [0, 0, 6, 12, 78, 99]
-}
-
-fn told_behind() -> [usize; 6] {
-    [0, 6, 12, 20, 93, 106]
-}
-
-fn look() -> &'static [u8] {
-    b"@ann list\nA: SELECT COUNT(*) FROM m\n"
-}
-
-/// How many fuses there are to try: with the last one, of one less, the run ends well.
-const FUSES: u64 = 154;
 
 /// More calls than a reopening makes.
-const REOPENING: u64 = 60;
+const REOPENING: u64 = 70;
 
 const AREAS: [Area; 5] = [
     Area::Rows,
@@ -80,8 +127,8 @@ pub fn again(alloc: Global, left: &MemoryBench, fuse: Option<u64>) -> Option<Mem
 }
 
 /// What a look finds, in a run that ended well: what it told.
-fn found(alloc: Global, left: &MemoryBench) -> Option<MemoryBench> {
-    let (status, after) = done(alloc, b"run", look(), again(alloc, left, None)?)?;
+fn found(alloc: Global, case: &Case, left: &MemoryBench) -> Option<MemoryBench> {
+    let (status, after) = done(alloc, b"run", case.look, again(alloc, left, None)?)?;
     if status == Status::Done {
         return Some(after);
     }
@@ -90,19 +137,20 @@ fn found(alloc: Global, left: &MemoryBench) -> Option<MemoryBench> {
 
 /// Whether a look finds what some of the steps leave that go with how much was told: what was told never runs ahead, and does not lag by more
 /// than a line.
-fn goes_with(alloc: Global, left: &MemoryBench, told: usize) -> Option<bool> {
-    let after = found(alloc, left)?;
-    Some(is_as_told(after.told(), told))
+fn goes_with(alloc: Global, case: &Case, left: &MemoryBench, told: usize) -> Option<bool> {
+    let after = found(alloc, case, left)?;
+    Some(is_as_told(case, after.told(), told))
 }
 
-fn is_as_told(seen: &[u8], told: usize) -> bool {
-    (0..6).any(|k| looks()[k] == seen && is_between(k, told))
+fn is_as_told(case: &Case, seen: &[u8], told: usize) -> bool {
+    (0..6).any(|k| case.looks[k] == seen && is_between(case, k, told))
 }
 
 /// The line of these steps is in progress, or told, and that of the next is not told whole.
-fn is_between(k: usize, told: usize) -> bool {
-    let before = told_before().get(k).copied().unwrap_or(usize::MAX);
-    let next = told_behind()
+fn is_between(case: &Case, k: usize, told: usize) -> bool {
+    let before = case.told_before.get(k).copied().unwrap_or(usize::MAX);
+    let next = case
+        .told_behind
         .get(k.saturating_add(1))
         .copied()
         .unwrap_or(usize::MAX);
@@ -111,10 +159,11 @@ fn is_between(k: usize, told: usize) -> bool {
 
 /// How many bytes a run told, where it ended well or with a fault of the device, and told a front of the text; at a good
 /// end all of it.
-fn told_front(end: &(Status, MemoryBench)) -> Option<usize> {
+fn told_front(case: &Case, end: &(Status, MemoryBench)) -> Option<usize> {
     let told = end.1.told();
-    let is_end = end.0 == Status::Device || (end.0 == Status::Done && told.len() == text().len());
-    if is_end && text().starts_with(told) {
+    let is_end = end.0 == Status::Device
+        || (end.0 == Status::Done && told.len() == case.text.len());
+    if is_end && case.text.starts_with(told) {
         return Some(told.len());
     }
     None
@@ -123,13 +172,14 @@ fn told_front(end: &(Status, MemoryBench)) -> Option<usize> {
 /// What a crash of a run of the script leaves, how it ended, and how much it told.
 fn crashed(
     alloc: Global,
+    case: &Case,
     failing: Option<(Call, u64)>,
     fuse: Option<u64>,
     pick: Pick,
 ) -> Option<(bool, usize, MemoryBench)> {
     let bench = bench_with(alloc, failing, fuse)?;
-    let end = done(alloc, b"run", script(), bench)?;
-    let told = told_front(&end)?;
+    let end = done(alloc, b"run", case.script, bench)?;
+    let told = told_front(case, &end)?;
     let is_done = end.0 == Status::Done;
     let after = end.1.crash(pick).ok()?;
     Some((is_done, told, after))
@@ -138,14 +188,15 @@ fn crashed(
 /// Whether a reopening that is stopped by the fuse leaves what goes with how much was told.
 fn reopened(
     alloc: Global,
+    case: &Case,
     left: &MemoryBench,
     fuse: u64,
     (pick, told): (Pick, usize),
 ) -> Option<bool> {
     let bench = again(alloc, left, Some(fuse))?;
-    let (_, stopped) = done(alloc, b"run", b"", bench)?;
+    let (_, stopped) = done(alloc, b"run", b"@ann list\n", bench)?;
     let after = stopped.crash(pick).ok()?;
-    goes_with(alloc, &after, told)
+    goes_with(alloc, case, &after, told)
 }
 
 fn picks() -> [Pick; 3] {
@@ -160,19 +211,20 @@ fn pick_of(n: u64) -> Pick {
     }
 }
 
-/// Whether a reopening does so, after each eleventh of its calls, where the first is another one for each fuse of the run.
-fn reopens(alloc: Global, left: &MemoryBench, told: usize, first: u64) -> bool {
+/// Whether a run of one more line, which opens what was left, does so after each fifth of its calls, where the first is another one for each
+/// fuse of the run before.
+fn reopens(alloc: Global, case: &Case, (left, told): (&MemoryBench, usize), first: u64) -> bool {
     (0..REOPENING).all(|fuse| {
         let pick = pick_of(first.saturating_add(fuse));
-        fuse % 11 != first % 11 || reopened(alloc, left, fuse, (pick, told)) == Some(true)
+        fuse % 5 != first % 5 || reopened(alloc, case, left, fuse, (pick, told)) == Some(true)
     })
 }
 
-/// Whether a run that the fuse stops ends well, where what is found after a crash goes with what it told, and a reopening
-/// leaves it; `None` where not.
-fn stops(alloc: Global, fuse: u64, pick: Pick) -> Option<bool> {
-    let (is_done, told, after) = crashed(alloc, None, Some(fuse), pick)?;
-    if goes_with(alloc, &after, told)? && reopens(alloc, &after, told, fuse) {
+/// Whether a run that the fuse stops ends well, where what is found after a crash goes with what it told, and a run that opens it and is
+/// stopped itself leaves it; `None` where not.
+fn stops(alloc: Global, case: &Case, fuse: u64, pick: Pick) -> Option<bool> {
+    let (is_done, told, after) = crashed(alloc, case, None, Some(fuse), pick)?;
+    if goes_with(alloc, case, &after, told)? && reopens(alloc, case, (&after, told), fuse) {
         return Some(is_done);
     }
     None
@@ -180,10 +232,33 @@ fn stops(alloc: Global, fuse: u64, pick: Pick) -> Option<bool> {
 
 #[test]
 fn a_stop_after_each_call(rt: HostRuntime) {
-    for fuse in 0..FUSES {
+    let case = let_go();
+    for fuse in 0..154 {
         for pick in picks() {
-            let is_done = stops(rt.alloc(), fuse, pick);
-            assert_eq!(rt; is_done, Some(fuse == FUSES - 1), "fuse {fuse}");
+            let is_done = stops(rt.alloc(), &case, fuse, pick);
+            assert_eq!(rt; is_done, Some(fuse == 153), "fuse {fuse}");
+        }
+    }
+}
+
+#[test]
+fn a_stop_after_each_call_of_archived_files(rt: HostRuntime) {
+    let case = archived();
+    for fuse in 0..137 {
+        for pick in picks() {
+            let is_done = stops(rt.alloc(), &case, fuse, pick);
+            assert_eq!(rt; is_done, Some(fuse == 136), "fuse {fuse}");
+        }
+    }
+}
+
+#[test]
+fn a_stop_after_each_call_of_a_restore(rt: HostRuntime) {
+    let case = restored();
+    for fuse in 0..170 {
+        for pick in picks() {
+            let is_done = stops(rt.alloc(), &case, fuse, pick);
+            assert_eq!(rt; is_done, Some(fuse == 169), "fuse {fuse}");
         }
     }
 }
@@ -198,9 +273,9 @@ const CALLS: [(Call, u64); 5] = [
 ];
 
 /// Whether a run of which this call fails ends well, where what is found after a crash goes with what it told; `None` where not.
-fn fails(alloc: Global, call: (Call, u64), pick: Pick) -> Option<bool> {
-    let (is_done, told, after) = crashed(alloc, Some(call), None, pick)?;
-    if goes_with(alloc, &after, told)? {
+fn fails(alloc: Global, case: &Case, call: (Call, u64), pick: Pick) -> Option<bool> {
+    let (is_done, told, after) = crashed(alloc, case, Some(call), None, pick)?;
+    if goes_with(alloc, case, &after, told)? {
         return Some(is_done);
     }
     None
@@ -208,11 +283,12 @@ fn fails(alloc: Global, call: (Call, u64), pick: Pick) -> Option<bool> {
 
 #[test]
 fn each_call_failing_once(rt: HostRuntime) {
+    let case = let_go();
     for (kind, count) in CALLS {
         for n in 1..count + 2 {
             for pick in picks() {
                 assert_eq!(rt;
-                    fails(rt.alloc(), (kind, n), pick),
+                    fails(rt.alloc(), &case, (kind, n), pick),
                     Some(n > count),
                     "call {n}"
                 );
