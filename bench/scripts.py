@@ -193,9 +193,15 @@ def in_the_program(pieces):
 OPENED = bytes.fromhex("01 0000000000000005 01 00000001 00")
 FIRST = bytes.fromhex("01 0000000000000024 01 0000000000000000 00000001 01 00000002 2f61 00000003 616e6e 01 00 00000003 6f6e65 00")
 EMPTY = {"rows": OPENED, "links": OPENED, "files": b"\0", "archive": b"\0", "backups": b"\0"}
-EVERY_RECORD = "".join(
-    line + "\n"
-    for line in [
+
+
+def script_of(lines):
+    """A script of these lines."""
+    return "".join(line + "\n" for line in lines)
+
+
+EVERY_RECORD = script_of(
+    [
         "@ann create /a one",
         "A: " + table("m", UNARCHIVED[3]),
         f"A: INSERT INTO m VALUES (1, {dl('/a')})",
@@ -298,7 +304,7 @@ def forged():
             wanted += [f"{len(lines)}: bytes 3", f"{len(lines)}| one"]
         if len(made) == COUNT:
             break
-    script = "".join(line + "\n" for line in lines)
+    script = script_of(lines)
     with room() as folder:
         status, told = run(folder, words, script)
     answers = told.split("\n")[:-1]

@@ -22,12 +22,11 @@ import model
 import scripts
 from model import AREAS, Folder, Stop, u64
 from model_sql import ARCHIVED, UNARCHIVED
-from scripts import EVERY_RECORD, LOOK, areas_in, check, counts, room, run
+from scripts import EVERY_RECORD, LOOK, areas_in, check, counts, room, run, script_of
 
 # A transaction that gives and takes at once: its Finish has each kind of record, and changes two files.
-MOVED = "".join(
-    line + "\n"
-    for line in [
+MOVED = script_of(
+    [
         "@ann create /a one",
         "@ann create /b two",
         "A: " + scripts.table("m", UNARCHIVED[3]),
@@ -43,13 +42,12 @@ MOVED = "".join(
         "A: !decide",
         "A: !finish",
         "B: COMMIT",
-        f"A: UPDATE n SET f = NULL",
+        "A: UPDATE n SET f = NULL",
     ]
 )
 # A restore that brings a file back from its copy, gives another back to its user, and drops a table; and one that undoes it.
-RESTORED = "".join(
-    line + "\n"
-    for line in [
+RESTORED = script_of(
+    [
         "@ann create /a one",
         "@ann create /b two",
         "A: " + scripts.table("m", ARCHIVED[2]),
@@ -63,9 +61,8 @@ RESTORED = "".join(
     ]
 )
 # A file whose link wants a copy: a transaction lets it go and links it anew, so that a copy is made, and another one in the end.
-COPIED = "".join(
-    line + "\n"
-    for line in [
+COPIED = script_of(
+    [
         "@ann create /a abc",
         "A: " + scripts.table("m", ARCHIVED[2]),
         f"A: INSERT INTO m VALUES (1, {scripts.dl('/a')})",
@@ -78,9 +75,8 @@ COPIED = "".join(
     ]
 )
 # One that is deleted with its row, and comes back from its copy with a restore.
-BROUGHT_BACK = "".join(
-    line + "\n"
-    for line in [
+BROUGHT_BACK = script_of(
+    [
         "@ann create /a abc",
         "A: " + scripts.table("m", ARCHIVED[2]),
         f"A: INSERT INTO m VALUES (1, {scripts.dl('/a')})",
