@@ -211,12 +211,11 @@ fn pick_of(n: u64) -> Pick {
     }
 }
 
-/// Whether a run of one more line, which opens what was left, does so after each fifth of its calls, where the first is another one for each
-/// fuse of the run before.
+/// Whether a run of one more line, which opens what was left, does so after each of its calls.
 fn reopens(alloc: Global, case: &Case, (left, told): (&MemoryBench, usize), first: u64) -> bool {
     (0..REOPENING).all(|fuse| {
         let pick = pick_of(first.saturating_add(fuse));
-        fuse % 5 != first % 5 || reopened(alloc, case, left, fuse, (pick, told)) == Some(true)
+        reopened(alloc, case, left, fuse, (pick, told)) == Some(true)
     })
 }
 
