@@ -1,3 +1,4 @@
+pub mod Combining
 pub mod Equations
 pub mod Gathering
 pub mod Numbers

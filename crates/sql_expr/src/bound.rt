@@ -4,8 +4,10 @@ ghost use Rattle.meaning_sql.specs.Conditions as meant;
 ghost use Rattle.meaning_sql.specs.Faults.{Computes};
 ghost use Rattle.meaning_sql.specs.Values.{meaning};
 ghost use Rattle.sql_expr.specs.Binding.{bound_in};
+ghost use Rattle.sql_expr.specs.Combining.{combined_row};
 
-use crate::evaluation::{tree_holds, tree_value};
+use crate::cells::Cells;
+use crate::evaluation::{holds_in, tree_holds, tree_value, value_in};
 use crate::tree::{Tree, tree_of};
 use dl_base::{Expr, List, Memory, Row, SqlFault, Value};
 use meaning_sql::{Columns, Context};
@@ -81,6 +83,20 @@ impl<'a> Bound<'a> {
         ensures { Computes (λ b. b) result (meant.holds_one self.now.columns context.entry.now self.now.expr row.now) }
     {
         tree_holds(alloc, &self.tree, row, context)
+    }
+
+    /// Its value at a combined row, as `value` gives it. No cell is copied for it.
+    pub fn value_in(&self, alloc: Global, row: &Cells, context: &Context) -> Result<Value, SqlFault>
+        ensures { Computes (λ v. v) result (meaning self.now.columns context.entry.now [] self.now.expr (combined_row row.now)) }
+    {
+        value_in(alloc, &self.tree, row, context, &[])
+    }
+
+    /// Whether it is true of a combined row, as `holds` tells.
+    pub fn holds_in(&self, alloc: Global, row: &Cells, context: &Context) -> Result<bool, SqlFault>
+        ensures { Computes (λ b. b) result (meant.holds_one self.now.columns context.entry.now self.now.expr (combined_row row.now)) }
+    {
+        holds_in(alloc, &self.tree, row, context)
     }
 }
 

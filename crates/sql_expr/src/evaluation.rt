@@ -5,14 +5,16 @@ ghost use Rattle.meaning_sql.specs.Datalinks as links_meant;
 ghost use Rattle.meaning_sql.specs.Faults.{Computes, and_then};
 ghost use Rattle.meaning_sql.specs.Operators as meant;
 ghost use Rattle.meaning_sql.specs.Values.{cell};
+ghost use Rattle.sql_expr.specs.Combining.{combined_row};
 ghost use Rattle.sql_expr.specs.Seeing.{FollowsSeen, GathersSeen, IsTold, seen};
 ghost use Rattle.sql_expr.specs.Trees.{said, said_value};
 
 use crate::aggregate::gather;
+use crate::cells::{Cells, cell_at};
 use crate::condition::is_true;
 use crate::datalinks::{accessed, datalink};
 use crate::operator::{Ask, binary, left_side, negated};
-use crate::seen::{Seen, cell_at, made};
+use crate::seen::{Seen, made};
 use crate::tree::Tree;
 use crate::truth::{is_null, not3, of_truth, truth_of};
 use dl_base::{Copied, Fold, Memory, Op, Options, Part, Row, SqlFault, Value};
@@ -40,6 +42,21 @@ pub(crate) fn tree_value(
 ) -> Result<Value, SqlFault>
     ensures { Computes (λ v. v) result (said_value context.entry.now group.now tree.now row.now) }
 {
+    let none = Cells::empty();
+    let alone = none.extended(row);
+    value_in(alloc, tree, &alone, context, group)
+}
+
+/// The same at a combined row.
+pub(crate) fn value_in(
+    alloc: Global,
+    tree: &Tree,
+    row: &Cells,
+    context: &Context,
+    group: &[Row],
+) -> Result<Value, SqlFault>
+    ensures { Computes (λ v. v) result (said_value context.entry.now group.now tree.now (combined_row row.now)) }
+{
     match value_over(alloc, tree, row, context, group) {
         Ok(value) => Ok(value.into_value()?),
         Err(fault) => Err(fault),
@@ -55,6 +72,20 @@ pub(crate) fn tree_holds(
 ) -> Result<bool, SqlFault>
     ensures { Computes (λ b. b) result (and_then (said_value context.entry.now [] tree.now row.now) (λ v. Ok (conditions_meant.is_true v))) }
 {
+    let none = Cells::empty();
+    let alone = none.extended(row);
+    holds_in(alloc, tree, &alone, context)
+}
+
+/// The same at a combined row.
+pub(crate) fn holds_in(
+    alloc: Global,
+    tree: &Tree,
+    row: &Cells,
+    context: &Context,
+) -> Result<bool, SqlFault>
+    ensures { Computes (λ b. b) result (and_then (said_value context.entry.now [] tree.now (combined_row row.now)) (λ v. Ok (conditions_meant.is_true v))) }
+{
     match value_over(alloc, tree, row, context, &[]) {
         Ok(value) => {
             let holds = is_true(value.get());
@@ -69,11 +100,11 @@ pub(crate) fn tree_holds(
 fn value_over<'a>(
     alloc: Global,
     tree: &'a Tree,
-    row: &'a Row,
+    row: &Cells<'a>,
     context: &Context,
     group: &'a [Row],
 ) -> Result<Seen<'a>, SqlFault>
-    ensures { Computes seen result (said_value context.entry.now group.now tree.now row.now) }
+    ensures { Computes seen result (said_value context.entry.now group.now tree.now (combined_row row.now)) }
 {
     match tree {
         Tree::Constant(value) => Ok(Seen::There(value)),
@@ -94,11 +125,13 @@ fn value_over<'a>(
         Tree::CountAll => Ok(Seen::Made(Value::Int(count(group)))),
         Tree::Aggregate(fold, inner) => {
             let mut so_far = Value::Null;
+            let none = Cells::empty();
             'rows: for one in group {
+                let alone = none.extended(one);
                 match next_of(
                     *fold,
                     so_far,
-                    value_over(alloc, inner.get(), one, context, group),
+                    value_over(alloc, inner.get(), &alone, context, group),
                 ) {
                     Err(fault) => return Err(fault),
                     Ok(more) => so_far = more,

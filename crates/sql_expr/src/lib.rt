@@ -3,6 +3,7 @@
 
 mod aggregate;
 mod bound;
+mod cells;
 mod checking;
 mod columns;
 mod condition;
@@ -19,6 +20,7 @@ mod types;
 
 pub use aggregate::gather;
 pub use bound::{Bound, evaluate, value};
+pub use cells::Cells;
 pub use checking::{check, check_in};
 pub use columns::place_of;
 pub use condition::{condition_type, filter_holds, filter_type, holds};

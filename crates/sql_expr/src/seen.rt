@@ -1,9 +1,8 @@
 // Values of expressions, looked at where they stand: a cell or a constant is copied only if it is kept.
 ghost use Rattle.std.specs.Prelude.{◌≡◌, IfOk};
-ghost use Rattle.meaning_sql.specs.Values as values_meant;
 ghost use Rattle.sql_expr.specs.Seeing.{IsSeen, seen};
 
-use dl_base::{Copied, Memory, Row, SqlFault, Value};
+use dl_base::{Copied, Memory, SqlFault, Value};
 
 /// A value of an expression.
 #[derive(Drop)]
@@ -31,17 +30,6 @@ impl<'a> Seen<'a> {
             Seen::There(value) => value.copy(),
             Seen::Made(value) => Ok(value),
         }
-    }
-}
-
-/// The value at a place from 0 of a row; NULL past its end.
-#[tactic(auto, unfolding(meaning_sql::specs::Values::cell))]
-pub(crate) fn cell_at(row: &Row, place: usize) -> Seen<'_>
-    ensures { seen result ≡ values_meant.cell row.now place }
-{
-    match row.values.at(place) {
-        Some(value) => Seen::There(value),
-        None => Seen::Made(Value::Null),
     }
 }
 
