@@ -115,9 +115,16 @@ fn commit_fits(
     let touched = changed_tables(alloc, number, &passed.tables)?;
     let (gives, takes) = moved(alloc, number, before, &passed.tables, &touched)?;
     if !is_branch(passed.branch, &gives, &takes, branch) {
+        drop(touched);
+        drop(gives);
+        drop(takes);
         return Ok(false);
     }
-    links_fit(store.opening(), &touched, &gives, &takes, known)
+    let fits = links_fit(store.opening(), &touched, &gives, &takes, known);
+    drop(touched);
+    drop(gives);
+    drop(takes);
+    fits
 }
 
 // Whether the links after a commit fit what is known before it, from the tables that it changed and the links that it gave and took;

@@ -28,9 +28,7 @@ use Rattle.meaning_settling.specs.Settling.{Kept, Moved}
 use Rattle.meaning_system.specs.State.{has_links}
 use Rattle.meaning_system.specs.Writes.{prepared, taken_by, when, whole_finish}
 use Rattle.sys_core.proofs.Branched.{something-prepared}
-use Rattle.sys_core.proofs.Roomy.{roomier-then}
 use Rattle.sys_core.specs.Restoring.{ArePieces, CanCommit, CanSettle, CanWrite, HasMade, MaySettle, commit_part, moved_in, restore_part}
-use Rattle.sys_core.specs.Voting.{HaveMoreRoom}
 use Rattle.sys_core.specs.declared.restoring.Restoration.{Restoration}
 use Rattle.sys_opening.proofs.InARow.{folds-then, taken-first, writes-append}
 use Rattle.sys_opening.proofs.Placing.{with_manager, with_store}
@@ -224,15 +222,6 @@ pub ends-stop : (js ks : Journals) (ws vs : List Write) (o n : Outside) → ((fa
 ends-stop js ks ws vs o n stop faults.Device ends = stop appends.Device ends
 ends-stop js ks ws vs o n stop (faults.Full f) ends = stop (appends.Full f) ends
 ends-stop js ks ws vs o n stop faults.Memory ends = ends
-
--- MORE ROOM, first of all owners and then of the manager alone
-pub room-more : (w k : Owned) (m : Managed) → HaveMoreRoom w k → Roomier k.manager m → HaveMoreRoom w (with_manager k m)
-room-more w k m first second = record {
-  store = first.store;
-  commits = first.commits;
-  manager = roomier-then w.manager k.manager m first.manager second;
-  backups = first.backups;
-}
 
 -- the pieces that were made
 pub has-made : (m n : Managed) (number : ℕ) (all : Moved) (p : Pieces) → Roomier m n → has_links all ≡ true → p.tx ≡ number → AreOf p all (kept_in m) → HaveRoom p n → HasMade n number all p

@@ -1,5 +1,6 @@
-use Rattle.std.proofs.Common.{◌≡◌, ℕ, ◌==◌, true, sym, ap, ◌∙◌}
+use Rattle.std.proofs.Common.{◌≡◌, ℕ, ◌==◌, true, sym, ap, ◌∙◌, arith}
 use Rattle.compare_links.proofs.Touched.{distinct-named, put-new}
+use Rattle.std.proofs.lemmas.Grind.{common_steps}
 use Rattle.compare_links.proofs.changed.changed_tables.Goals as goal
 
 pub put_if-requires : goal.put_if-requires
@@ -10,3 +11,12 @@ put_if-requires c is =
 
 pub returns-clause-named : goal.returns-clause-named
 returns-clause-named c = distinct-named c.args.after.now c.len-i-end.ensures.distinct
+
+pub loop-i-preserved : goal.loop-i-preserved
+loop-i-preserved c = grind (arith, common_steps)
+
+pub returns-in-None-clause-named : goal.returns-in-None-clause-named
+returns-in-None-clause-named c = grind (arith, common_steps)
+
+pub returns-clause-tables : goal.returns-clause-tables
+returns-clause-tables c = grind (arith, common_steps)

@@ -1,7 +1,8 @@
-use Rattle.std.proofs.Common.{◌≡◌, Option, true, sym, ap, ◌∙◌}
+use Rattle.std.proofs.Common.{◌≡◌, Option, true, sym, ap, ◌∙◌, arith}
 use Rattle.meaning_tables.specs.Tables.{Rows, table_of}
 use Rattle.compare_links.proofs.Touched.{distinct-named, put-new}
 use Rattle.compare_links.specs.Moving.{is_lost}
+use Rattle.std.proofs.lemmas.Grind.{common_steps}
 use Rattle.compare_links.proofs.changed.lost_tables.Goals as goal
 
 pub put_if-requires : goal.put_if-requires
@@ -12,3 +13,12 @@ put_if-requires c is =
 
 pub returns-clause-named : goal.returns-clause-named
 returns-clause-named c = distinct-named c.args.before.now c.len-i-end.ensures.distinct
+
+pub loop-i-preserved : goal.loop-i-preserved
+loop-i-preserved c = grind (arith, common_steps)
+
+pub returns-clause-tables : goal.returns-clause-tables
+returns-clause-tables c = grind (arith, common_steps)
+
+pub returns-in-None-clause-named : goal.returns-in-None-clause-named
+returns-in-None-clause-named c = grind (arith, common_steps)

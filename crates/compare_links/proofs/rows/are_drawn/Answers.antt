@@ -1,6 +1,7 @@
-use Rattle.std.proofs.Common.{◌≡◌, true, false, rules}
+use Rattle.std.proofs.Common.{◌≡◌, true, false, rules, arith}
 use Rattle.fm_branch.proofs.Lists.{all-off, all-on}
 use Rattle.compare_links.specs.Fitting.{is_drawn}
+use Rattle.std.proofs.lemmas.Grind.{common_steps}
 use Rattle.compare_links.proofs.rows.are_drawn.Goals as goal
 
 pub returns-then-not-is_drawn : goal.returns-then-not-is_drawn
@@ -16,3 +17,6 @@ loop-link-preserved c =
     let yes : is_drawn c.args.opening d ≡ true = search rules in
     all-on (is_drawn c.args.opening) c.as_slice-link-items.result.now c.args.links.now c.loop-link.link-index d
     c.as_slice-link-items.ensures c.loop-link-test.true c.link-item.is yes c.loop-link.invariant
+
+pub returns : goal.returns
+returns c = grind (arith, common_steps)

@@ -1,7 +1,8 @@
-use Rattle.std.proofs.Common.{◌+◌, drop, sym, ◌∙◌, rules, ◌≡◌}
+use Rattle.std.proofs.Common.{◌+◌, drop, sym, ◌∙◌, rules, ◌≡◌, arith}
 use Rattle.meaning_tables.specs.Links.{cell_links, row_links}
-use Rattle.sys_core.proofs.Finding.{cells-found, cells-more}
+use Rattle.sys_core.proofs.Finding.{cells-found, cells-more, no_values}
 use Rattle.sys_core.proofs.Refusals.{item-here}
+use Rattle.std.proofs.lemmas.Grind.{common_steps}
 use Rattle.sys_core.proofs.numbered.link_in_row.Goals as goal
 
 pub returns-in-Some : goal.returns-in-Some
@@ -29,3 +30,9 @@ loop-i-preserved c =
     let values = item-here c.as_slice-values.result.now vs i v c.as_slice-values.ensures c.if-values-i.false c.index-values-i.is in
     cells-more c.args.link (cell_links x.kind v) (row_links (drop (i + 1) cs) (drop (i + 1) vs)) (row_links cs vs) (row_links (drop i cs) (drop i vs))
     (λ j. row_links (columns j) (values j)) c.loop-i.invariant (sym c.in_ok-found.ensures ∙ c.in_default.is)
+
+pub returns : goal.returns
+returns c = grind (arith, common_steps, no_values)
+
+pub returns-then-values-i : goal.returns-then-values-i
+returns-then-values-i c = grind (arith, common_steps, no_values)

@@ -1,4 +1,4 @@
-use Rattle.std.proofs.Common.{[], ◌∷◌, None, Some, refl}
+use Rattle.std.proofs.Common.{[], ◌∷◌, None, Some, refl, arith}
 use Rattle.db_store.specs.Store.{commit_write}
 use Rattle.dl_base.specs.declared.area.Area.TheVariants.{Rows}
 use Rattle.fm_manager.specs.Managed.{as_writes}
@@ -8,6 +8,7 @@ use Rattle.sys_core.proofs.PuttingBack.{commit-leads, may-settle}
 use Rattle.sys_core.specs.Restoring.{moved_in}
 use Rattle.sys_opening.proofs.Placing.{store-does, with_store}
 use Rattle.sys_opening.specs.Owned.{folds_in, journals_of}
+use Rattle.std.proofs.lemmas.Grind.{common_steps}
 use Rattle.sys_core.proofs.restoring.commit_restore.Goals as goal
 
 pub commit-requires-clause-ready : goal.commit-requires-clause-ready
@@ -77,3 +78,12 @@ returns-in-Err-clause-does g c =
     let one = store-does w (commit_write w.store.rows r.made ∷ []) (Some c.in-Err.fault) (O c.args.bench.now) (O c.commit.new.bench) c.requires.ready c.commit.new.self c.in-Err.ensures.does in
     c.calls_follow_one_another.ensures.stop (journals_of w) (journals_of k) (commit_write w.store.rows r.made ∷ []) (as_writes (whole_finish r.made.tx (moved_in r) (kept_of (folds_in w)))) c.in-Err.fault
     c.args.bench.now c.commit.new.bench one
+
+pub returns-in-Ok-settle-clause-commits : goal.returns-in-Ok-settle-clause-commits
+returns-in-Ok-settle-clause-commits g c = grind (arith, common_steps)
+
+pub returns-in-Ok-settle-clause-drawn : goal.returns-in-Ok-settle-clause-drawn
+returns-in-Ok-settle-clause-drawn g c = grind (arith, common_steps)
+
+pub returns-in-Ok-settle-clause-answer : goal.returns-in-Ok-settle-clause-answer
+returns-in-Ok-settle-clause-answer g c = grind (arith, common_steps)

@@ -1,4 +1,4 @@
-use Rattle.std.proofs.Common.{◌≡◌, ℕ, List, None, Some, is_some, true, sym, subst}
+use Rattle.std.proofs.Common.{◌≡◌, ℕ, List, None, Some, is_some, true, sym, subst, arith}
 use Rattle.dl_areas.proofs.Ending.{ends-written}
 use Rattle.dl_areas.specs.Lists.{Write}
 use Rattle.dl_areas.specs.Writing.{Does, Ends}
@@ -10,6 +10,7 @@ use Rattle.sys_core.proofs.PuttingBack.{all-lead-drawn, all-writes, at-number, c
 use Rattle.sys_core.specs.Restoring.{commit_part, moved_in, restore_part}
 use Rattle.sys_opening.proofs.InARow.{writes-append}
 use Rattle.sys_opening.specs.Owned.{folds_in, journals_of}
+use Rattle.std.proofs.lemmas.Grind.{common_steps}
 use Rattle.sys_core.proofs.restoring.write_restore.Goals as goal
 
 pub write_prepared-requires-clause-taken : goal.write_prepared-requires-clause-taken
@@ -80,3 +81,18 @@ returns-in-Err-clause-ends g c =
     subst (λ (ws : List Write). Ends (journals_of w) (journals_of v) ws (Some c.in-Err.fault) (O c.args.bench.now) (O c.write_prepared.new.bench)) (sym (writes-append (prepared r.made.tx (moved_in r)) (commit_part (folds_in w) r.made (moved_in r))))
     (ends-stop (journals_of w) (journals_of v) first rest (O c.args.bench.now) (O c.write_prepared.new.bench)
     (λ fault. c.calls_follow_one_another.ensures.stop (journals_of w) (journals_of v) first rest fault c.args.bench.now c.write_prepared.new.bench) c.in-Err.fault one)
+
+pub returns-in-Ok-commit_restore-clause-commits : goal.returns-in-Ok-commit_restore-clause-commits
+returns-in-Ok-commit_restore-clause-commits g c = grind (arith, common_steps)
+
+pub returns-in-Ok-commit_restore-clause-memory : goal.returns-in-Ok-commit_restore-clause-memory
+returns-in-Ok-commit_restore-clause-memory g c = grind (arith, common_steps)
+
+pub returns-in-Ok-commit_restore-clause-copies : goal.returns-in-Ok-commit_restore-clause-copies
+returns-in-Ok-commit_restore-clause-copies g c = grind (arith, common_steps)
+
+pub returns-in-Ok-commit_restore-clause-drawn : goal.returns-in-Ok-commit_restore-clause-drawn
+returns-in-Ok-commit_restore-clause-drawn g c = grind (arith, common_steps)
+
+pub returns-in-Ok-commit_restore-clause-answer : goal.returns-in-Ok-commit_restore-clause-answer
+returns-in-Ok-commit_restore-clause-answer g c = grind (arith, common_steps)

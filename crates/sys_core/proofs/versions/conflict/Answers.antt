@@ -1,0 +1,15 @@
+use Rattle.std.proofs.Common.{arith}
+use Rattle.std.proofs.lemmas.Grind.{common_steps}
+use Rattle.sys_core.proofs.versions.conflict.Goals as goal
+
+pub returns-then-was-now : goal.returns-then-was-now
+returns-then-was-now c = grind (arith, common_steps)
+
+pub loop-name-init : goal.loop-name-init
+loop-name-init c = grind (arith, common_steps)
+
+pub returns : goal.returns
+returns c = grind (arith, common_steps)
+
+pub loop-name-preserved : goal.loop-name-preserved
+loop-name-preserved c = grind (arith, common_steps)
