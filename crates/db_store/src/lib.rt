@@ -1,5 +1,5 @@
 //! The commits of the database, in memory and in the area Rows: the committed tables, those after each earlier commit, the numbers
-//! of transactions, and the branches that have ended. Restores are not built.
+//! of transactions, and the branches that have ended.
 #![tactic(auto)]
 
 mod apply;

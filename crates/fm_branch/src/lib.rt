@@ -1,5 +1,4 @@
-//! The branches of transactions that give and take links, and the links that are held, in memory and in the area Links. Claims are
-//! not built.
+//! The branches of transactions that give and take links, and the links that are held, in memory and in the area Links.
 #![tactic(auto)]
 
 mod branches;
