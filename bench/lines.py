@@ -18,6 +18,11 @@ PROGRAM = ROOT / "crates" / "datalinks_main" / "out" / "datalinks_main"
 CONTENT = 100
 
 
+def surroundings():
+    """The environment in which `bin/datalinks` starts the program: it asks for large pages of memory."""
+    return {"GLIBC_TUNABLES": "glibc.malloc.hugetlb=1", **os.environ}
+
+
 def script(lines):
     """The bytes of a script of so many lines, and of the files that it makes."""
     text = []
@@ -52,7 +57,7 @@ def measured(given, answers):
             out.write(given)
         with open(os.path.join(folder, "script"), "rb") as source, open(os.path.join(folder, "told"), "wb") as told:
             start = time.monotonic()
-            child = subprocess.Popen([str(PROGRAM), "run"], cwd=folder, stdin=source, stdout=told)
+            child = subprocess.Popen([str(PROGRAM), "run"], cwd=folder, stdin=source, stdout=told, env=surroundings())
             peak = 0
             while child.poll() is None:
                 peak = max(peak, peak_so_far(child.pid))

@@ -31,7 +31,7 @@ import sys
 import tempfile
 import time
 
-from lines import PROGRAM, build, peak_so_far, place as in_memory
+from lines import PROGRAM, build, peak_so_far, place as in_memory, surroundings
 
 # How often the answers of a run are looked for, in seconds.
 POLL = 0.0001
@@ -122,7 +122,7 @@ class Run:
             source.write(given)
             source.seek(0)
             start = time.monotonic()
-            child = subprocess.Popen([*before, program, "run"], cwd=folder, stdin=source, stdout=write)
+            child = subprocess.Popen([*before, program, "run"], cwd=folder, stdin=source, stdout=write, env=surroundings())
             os.close(write)
             # The first answer came behind the last look that found none, so no time is told too short.
             empty = first = last = start, 0

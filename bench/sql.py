@@ -3,11 +3,12 @@
 
 What is timed is the built program of `crates/sql_shell`, which reads statements, a line each, and tells their answers. Of each kind
 the time is that of a run with the statements that are measured, less that of a run with those alone that come before them: the best
-of three runs, or of one where it takes more than five seconds. An answer that is not the right one ends the script. SQLite is the one
-that Python brings along; its time is that of handing it the same statements one by one and taking their rows.
+of nine runs, or of as many as begin within five seconds. The program runs with the large pages of memory that `bin/datalinks` asks for.
+An answer that is not the right one ends the script. SQLite is the one that Python brings along; its time is that of handing it the same
+statements one by one and taking their rows.
 
 Printed are: INSERTs of a row each into a table with a key, 10,000 and 20,000 of them; UPDATE, DELETE and SELECT by key over 1,000 and
-over 100,000 rows, for one statement; joins by a key; a join of three tables of 200 rows; a COUNT over 10,000,000 combined rows and
+over 100,000 rows, for one statement, of keys far apart, and UPDATE of one key after the other too; joins by a key; a join of three tables of 200 rows; a COUNT over 10,000,000 combined rows and
 GROUP BY over as many, with the peak of memory; SELECTs that look at all rows, ORDER BY and GROUP BY; and how many bytes a row takes.
 
 With a word, only the kinds whose name has it are measured.
@@ -20,10 +21,12 @@ import sys
 import tempfile
 import time
 
+from lines import surroundings
+
 ROOT = pathlib.Path(__file__).resolve().parent.parent
 FOLDER = ROOT / "crates" / "sql_shell"
 PROGRAM = FOLDER / "out" / "sql_shell"
-RUNS = 3
+RUNS = 9
 ENOUGH = 5.0
 TUPLES = 1_000
 CREATE = "CREATE TABLE %s (id INTEGER PRIMARY KEY, v INTEGER, s VARCHAR(20))"
@@ -48,9 +51,9 @@ def inserts(count):
     return [(CREATE % "t", "ok")], [("INSERT INTO t VALUES " + tuple_of(i), "ok 1") for i in range(count)]
 
 
-def by_key(statement, answer, rows, count):
-    """A statement for each of some keys, far apart and none twice."""
-    keys = [i * 7919 % rows for i in range(count)]
+def by_key(statement, answer, rows, count, apart=7919):
+    """A statement for each of some keys, which are so far apart, and none twice before all had their turn."""
+    keys = [i * apart % rows for i in range(count)]
     return table("t", rows), [(statement % key, answer) for key in keys]
 
 
@@ -58,13 +61,18 @@ def updates(rows):
     return by_key("UPDATE t SET v = v + 1 WHERE id = %d", "ok 1", rows, 20_000)
 
 
+def updates_in_order(rows):
+    """Of one row after the other, so that the pages of the one before are near at hand."""
+    return by_key("UPDATE t SET v = v + 1 WHERE id = %d", "ok 1", rows, 20_000, 1)
+
+
 def deletes(rows):
-    """Of a fifth of the rows at most, so that a table of few keeps most of them."""
-    return by_key("DELETE FROM t WHERE id = %d", "ok 1", rows, rows // 5)
+    """Of a table of few rows nine in ten, which are enough to be timed: they cost less as it empties. Of one of many a fifth."""
+    return by_key("DELETE FROM t WHERE id = %d", "ok 1", rows, min(rows * 9 // 10, 20_000))
 
 
 def selects(rows):
-    return by_key("SELECT v, s FROM t WHERE id = %d", "rows 1", rows, 200)
+    return by_key("SELECT v, s FROM t WHERE id = %d", "rows 1", rows, 20_000)
 
 
 def join(rows, others):
@@ -122,7 +130,7 @@ def ours(statements):
         with tempfile.TemporaryFile() as source, tempfile.TemporaryFile() as told:
             source.write(given)
             source.seek(0)
-            run = subprocess.Popen([str(PROGRAM)], stdin=source, stdout=told)
+            run = subprocess.Popen([str(PROGRAM)], stdin=source, stdout=told, env=surroundings())
             ended, status, usage = 0, 0, None
             while not ended:
                 peak = max(peak, peak_of(run.pid))
@@ -207,6 +215,7 @@ def row_bytes():
 KINDS = {
     "INSERT": lambda: twice("INSERTs of a row into a table with a key", inserts, 10_000),
     "UPDATE by key": lambda: grown("UPDATEs by key", updates, 1_000, 100_000),
+    "UPDATE by key, in order": lambda: grown("UPDATEs by key, in the order of the keys", updates_in_order, 1_000, 100_000),
     "DELETE by key": lambda: grown("DELETEs by key", deletes, 1_000, 100_000),
     "SELECT by key": lambda: grown("SELECTs by key", selects, 1_000, 100_000),
     "join by key": lambda: one("a join by key of 10,000 rows with 1,000", join(10_000, 1_000)),
