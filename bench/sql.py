@@ -8,8 +8,9 @@ An answer that is not the right one ends the script. SQLite is the one that Pyth
 statements one by one and taking their rows.
 
 Printed are: INSERTs of a row each into a table with a key, 10,000 and 20,000 of them; UPDATE, DELETE and SELECT by key over 1,000 and
-over 100,000 rows, for one statement, of keys far apart, and UPDATE of one key after the other too; joins by a key; a join of three tables of 200 rows; a COUNT over 10,000,000 combined rows and
-GROUP BY over as many, with the peak of memory; SELECTs that look at all rows, ORDER BY and GROUP BY; and how many bytes a row takes.
+over 100,000 rows, for one statement, of keys far apart, and UPDATE of one key after the other too; joins by a key; a join of three
+tables of 200 rows; a COUNT over 10,000,000 combined rows and GROUP BY over as many, with the peak of memory; SELECTs that look at all
+rows, ORDER BY and GROUP BY; and how many bytes a row takes.
 
 With a word, only the kinds whose name has it are measured.
 """
