@@ -1,10 +1,12 @@
-use Rattle.std.proofs.Common.{◌≡◌, ◌+◌, ℕ, true, false, List, Ok, Err, bytes_eq, drop, sym, ap, ◌∙◌, rules}
+use Rattle.std.proofs.Common.{◌≡◌, ◌+◌, ℕ, true, false, List, Ok, Err, bytes_eq, drop, sym, ap, ◌∙◌, rules, arith}
 use Rattle.std.specs.List.{list_any}
 use Rattle.dl_base.specs.declared.column.Column.{Column}
 use Rattle.dl_base.specs.declared.sql_fault.SqlFault.TheVariants as faults
 use Rattle.dl_base.specs.declared.statement.ColumnDef.{ColumnDef}
 use Rattle.meaning_statements.specs.Creating.{kind_made, rules_fit}
 use Rattle.sql_change.proofs.Columns.{made_of, name_again, bad_kind, bad_rules, one_column, left}
+use Rattle.std.proofs.lemmas.Grind.{common_steps}
+use Rattle.sql_change.proofs.Reversed.{any_named}
 use Rattle.sql_change.proofs.creating.columns_made.Goals as goal
 
 pub returns-then-stands : goal.returns-then-stands
@@ -47,3 +49,6 @@ returns-in-Err c memory =
     let at = left c.as_slice-def-items.result.now c.args.defs.now c.loop-def.def-index d c.as_slice-def-items.ensures c.loop-def-test.true c.def-item.is in
     sym c.loop-def.invariant ∙ ap (λ (ds : List ColumnDef). made_of made c.loop-def.keyed ds) at
     ∙ bad_kind made c.loop-def.keyed d (drop (c.loop-def.def-index + 1) c.args.defs.now) c.in-Err.fault new (c.in-Err.ensures memory)
+
+pub returns : goal.returns
+returns c = grind (arith, common_steps, any_named)

@@ -13,6 +13,7 @@ use Rattle.sql_rows.specs.NewRows.{counted}
 use Rattle.sql_change.specs.Parts.{grown_table}
 use Rattle.sql_change.proofs.Adding.{is_refused, none_repeated, one_grown, push_length, still_none}
 use Rattle.sql_change.proofs.Standing.{has_key_column}
+use Rattle.std.proofs.lemmas.Grind.{common_steps}
 use Rattle.sql_change.proofs.inserting.with_keyed_rows.Goals as goal
 
 pub loop-row-init : goal.loop-row-init
@@ -69,3 +70,15 @@ loop-row-preserved c =
       none = subst (λ (x : Rows). repeated x.columns [] x.rows ≡ None) (sym put) (still_none made c.args.place at row wide c.loop-row.invariant.none (λ key is. sym new ∙ c.stands.ensures key is) made.next);
       wide = All-tail (λ (r : Row). length r.values ≡ length t.columns) row rest all;
     }
+
+pub returns-clause-table : goal.returns-clause-table
+returns-clause-table c = grind (arith, common_steps)
+
+pub put_next-requires-clause-small : goal.put_next-requires-clause-small
+put_next-requires-clause-small c = grind (arith, common_steps)
+
+pub returns-clause-keys : goal.returns-clause-keys
+returns-clause-keys c = grind (arith, common_steps)
+
+pub put_next-requires-clause-few : goal.put_next-requires-clause-few
+put_next-requires-clause-few c = grind (arith, common_steps)

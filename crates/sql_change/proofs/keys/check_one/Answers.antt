@@ -1,9 +1,10 @@
-use Rattle.std.proofs.Common.{ℕ, ℤ, List, [], map, ap, refl}
+use Rattle.std.proofs.Common.{ℕ, ℤ, List, [], map, ap, refl, arith}
 use Rattle.std.specs.Cmp.Lexicographic.{pointwise}
 use Rattle.std.specs.List.{list_any}
 use Rattle.std.specs.Ordering.{int_eq}
 use Rattle.std.specs.Prelude.{◌==◌}
 use denote.Ref.{Bor}
+use Rattle.std.proofs.lemmas.Grind.{common_steps}
 use Rattle.sql_change.proofs.keys.check_one.Goals as goal
 
 pub loop-i-init : goal.loop-i-init
@@ -15,3 +16,6 @@ loop-i-init c = (
   ),
   refl,
 )
+
+pub returns : goal.returns
+returns c = grind (arith, common_steps)

@@ -3,8 +3,9 @@ use Rattle.std.proofs.lemmas.List.{drop_all}
 use Rattle.meaning_sql.specs.declared.SqlType.{SqlType}
 use Rattle.meaning_statements.specs.Changing.{assigned}
 use Rattle.sql_change.specs.Steps.{cleared}
-use Rattle.sql_change.proofs.Clearing.{pass_each, stop_each, stops_first}
+use Rattle.sql_change.proofs.Clearing.{pass_each, stop_each, stops_first, passing}
 use Rattle.sql_change.proofs.Columns.{left}
+use Rattle.std.proofs.lemmas.Grind.{common_steps}
 use Rattle.sql_change.proofs.places.check_all_types.Goals as goal
 
 pub returns-in-Err : goal.returns-in-Err
@@ -19,3 +20,6 @@ returns c =
     let step = assigned c.args.columns.now c.args.places.now in
     let none = drop_all c.loop-one.one-index c.args.types.now (omega (arith, ap length c.as_slice-one-items.ensures)) in
     pass_each step c.args.types.now (sym c.loop-one.invariant ∙ ap (λ (ts : List (List SqlType)). cleared step ts) none)
+
+pub loop-one-preserved : goal.loop-one-preserved
+loop-one-preserved c = grind (arith, common_steps, passing)

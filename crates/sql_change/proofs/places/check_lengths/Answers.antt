@@ -6,6 +6,7 @@ use Rattle.meaning_sql.specs.Faults.{ensure}
 use Rattle.sql_change.specs.Steps.{cleared}
 use Rattle.sql_change.proofs.Clearing.{pass_each, stop_each, stops_first}
 use Rattle.sql_change.proofs.Columns.{left}
+use Rattle.std.proofs.lemmas.Grind.{common_steps}
 use Rattle.sql_change.proofs.places.check_lengths.Goals as goal
 
 pub returns-then-len-count : goal.returns-then-len-count
@@ -21,3 +22,6 @@ returns c =
     let none = drop_all c.loop-tuple.tuple-index c.args.tuples.now (omega (arith, ap length c.as_slice-tuple-items.ensures)) in
     pass_each (λ (es : List Expr). ensure (length es == length c.args.places.now) faults.Arity) c.args.tuples.now
     (sym c.loop-tuple.invariant ∙ ap (λ (ts : List (List Expr)). cleared (λ (es : List Expr). ensure (length es == length c.args.places.now) faults.Arity) ts) none)
+
+pub loop-tuple-preserved : goal.loop-tuple-preserved
+loop-tuple-preserved c = grind (arith, common_steps)

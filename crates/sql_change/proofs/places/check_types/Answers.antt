@@ -25,3 +25,6 @@ returns c =
     let none = drop_all c.loop-i.i c.args.places.now (omega (arith, ap length c.as_slice-place-items.ensures)) in
     pass_each (λ (p : ℕ × SqlType). typed (is_assignable (kind_of_column c.args.columns.now p.0) p.1) p.1) (zip c.args.places.now c.args.types.now)
     (sym c.loop-i.invariant ∙ ap (λ (ps : List ℕ). cleared (λ (p : ℕ × SqlType). typed (is_assignable (kind_of_column c.args.columns.now p.0) p.1) p.1) (zip ps (drop c.loop-i.i c.args.types.now))) none)
+
+pub loop-i-preserved : goal.loop-i-preserved
+loop-i-preserved c = grind (arith, common_steps)

@@ -1,4 +1,4 @@
-use Rattle.std.proofs.Common.{Bool, sym, ap, ◌∙◌, subst}
+use Rattle.std.proofs.Common.{Bool, sym, ap, ◌∙◌, subst, arith}
 use Rattle.std.proofs.lemmas.Result.{on_ok_weaker}
 use Rattle.dl_base.specs.declared.answer.Answer.TheVariants as answers
 use Rattle.dl_base.specs.declared.answer.Limit.TheVariants as limits
@@ -8,6 +8,7 @@ use Rattle.meaning_run.specs.Running.{met}
 use Rattle.sys_opening.specs.Owned.{journals_of}
 use Rattle.sys_run.proofs.Lines.{extra-comes, in-line, met-done, met-is-full, met-moments, told-line, told-moments, unbuilt-comes}
 use Rattle.sys_run.specs.Turning.{IsAtRead}
+use Rattle.std.proofs.lemmas.Grind.{common_steps}
 use Rattle.sys_run.proofs.line.do_read.Goals as goal
 
 -- an actor too many
@@ -66,3 +67,9 @@ returns-clause-full g c full which first lists before r l more stands was =
     let at = subst (λ (b : Bool). IsAtRead a.number a.line.now b r l more) c.if-not-counted.false was in
     met-is-full a.number a.line.now r l more at (journals_of a.engine.now.owners) lists before full (g.B.Bench.outside c.take_turns.new.bench)
     (c.take_turns.ensures.full full which first lists before (met r l.actor) l more stands (in-line a.number a.line.now r l more at (sym c.is_built.ensures ∙ c.if-not-is_built.false)))
+
+pub returns-then-not-counted-clause-full : goal.returns-then-not-counted-clause-full
+returns-then-not-counted-clause-full g c = grind (arith, common_steps)
+
+pub returns-then-not-is_built-clause-full : goal.returns-then-not-is_built-clause-full
+returns-then-not-is_built-clause-full g c = grind (arith, common_steps)

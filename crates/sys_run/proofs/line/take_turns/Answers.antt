@@ -11,6 +11,7 @@ use Rattle.sys_run.specs.Turning.{Goes}
 use Rattle.sys_run.proofs.Lines.{Follow}
 use Rattle.sys_run.proofs.Pacing.{StoresEach, pace-first}
 use Rattle.sys_run.proofs.Reached.{Reached, nearer, one-more, reached-first, reached-full, reached-moments, reached-next, reached-sees, reached-told, rose-later}
+use Rattle.std.proofs.lemmas.Grind.{common_steps}
 use Rattle.sys_run.proofs.line.take_turns.Goals as goal
 
 -- want of memory before the first turn
@@ -128,3 +129,12 @@ returns-in-Err-clause-device g c which =
     let (first, lists, before, r, l, more, stands, is) = c.requires.stands in
     rose-later (g.B.Bench.outside c.args.bench.now) (g.B.Bench.outside c.loop-answers.bench) (g.B.Bench.outside c.take_turn.new.bench)
     (c.loop-answers.invariant.reached first lists before r l more stands is).moments.faults (c.take_turn.ensures.device (c.in-Err.is ∙ ap Err fault))
+
+pub take_turn-requires-clause-read : goal.take_turn-requires-clause-read
+take_turn-requires-clause-read g c = grind (arith, common_steps)
+
+pub returns-in-Ok-true-clause-device : goal.returns-in-Ok-true-clause-device
+returns-in-Ok-true-clause-device g c = grind (arith, common_steps)
+
+pub returns-in-Ok-true-clause-full : goal.returns-in-Ok-true-clause-full
+returns-in-Ok-true-clause-full g c = grind (arith, common_steps)

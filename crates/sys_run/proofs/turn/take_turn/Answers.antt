@@ -1,10 +1,11 @@
-use Rattle.std.proofs.Common.{rules, ◌≡◌, Err, None, Some, refl, sym, ap}
+use Rattle.std.proofs.Common.{rules, ◌≡◌, Err, None, Some, refl, sym, ap, arith}
 use Rattle.dl_base.specs.declared.fault.StepFault.TheVariants as faults
 use Rattle.dl_base.specs.declared.step.Step.TheVariants as steps
 use Rattle.meaning_script.specs.Expansion.{answered, given, meant, silent}
 use Rattle.sys_run.proofs.Images.{Laws}
 use Rattle.sys_run.proofs.Lines.{silent-stands}
 use Rattle.sys_run.proofs.Taking.{given-tells, its-step, same-fault, step-filled, step-history, step-turned, tell-history, tell-turned}
+use Rattle.std.proofs.lemmas.Grind.{common_steps}
 use Rattle.sys_run.proofs.turn.take_turn.Goals as goal
 
 pub do_step-requires-clause-of : goal.do_step-requires-clause-of
@@ -186,3 +187,60 @@ returns-in-Nothing-clause-turned g c first lists before r l more stands is sees 
     let a = c.args in
     tell-turned a.number a.line.now a.answers.now first lists before r l more a.engine.now a.sessions.now (O a.bench.now) stands is a.waiting.now sees silent (meant c.in_ok-step.field-0) (c.in_ok-step.ensures first r stands.is stands.sessions) (ap meant c.in-Nothing.is) refl None refl
     a.sessions.now (O a.bench.now) a.answers.now (silent-stands first lists before r l more a.engine.now a.sessions.now (O a.bench.now) stands)
+
+pub returns-in_default-clause-device : goal.returns-in_default-clause-device
+returns-in_default-clause-device g c = grind (arith, common_steps)
+
+pub returns-in_err-answer-in-Do-clause-device : goal.returns-in_err-answer-in-Do-clause-device
+returns-in_err-answer-in-Do-clause-device g c = grind (arith, common_steps)
+
+pub returns-in_ok-tell-in-Answered-clause-device : goal.returns-in_ok-tell-in-Answered-clause-device
+returns-in_ok-tell-in-Answered-clause-device g c = grind (arith, common_steps)
+
+pub returns-in_ok-tell-in-Given-clause-device : goal.returns-in_ok-tell-in-Given-clause-device
+returns-in_ok-tell-in-Given-clause-device g c = grind (arith, common_steps)
+
+pub returns-in_err-tell-in-Answered-clause-device : goal.returns-in_err-tell-in-Answered-clause-device
+returns-in_err-tell-in-Answered-clause-device g c = grind (arith, common_steps)
+
+pub returns-in_err-answer-in-Statement-clause-device : goal.returns-in_err-answer-in-Statement-clause-device
+returns-in_err-answer-in-Statement-clause-device g c = grind (arith, common_steps)
+
+pub next_of-requires : goal.next_of-requires
+next_of-requires g c = grind (arith, common_steps)
+
+pub returns-in_err-tell-in-Given-clause-full : goal.returns-in_err-tell-in-Given-clause-full
+returns-in_err-tell-in-Given-clause-full g c = grind (arith, common_steps)
+
+pub returns-in_default-clause-history : goal.returns-in_default-clause-history
+returns-in_default-clause-history g c = grind (arith, common_steps)
+
+pub returns-in_default-clause-full : goal.returns-in_default-clause-full
+returns-in_default-clause-full g c = grind (arith, common_steps)
+
+pub returns-in_ok-put-in-Do-clause-device : goal.returns-in_ok-put-in-Do-clause-device
+returns-in_ok-put-in-Do-clause-device g c = grind (arith, common_steps)
+
+pub returns-in-Nothing-clause-full : goal.returns-in-Nothing-clause-full
+returns-in-Nothing-clause-full g c = grind (arith, common_steps)
+
+pub returns-in_ok-put-in-Statement-clause-full : goal.returns-in_ok-put-in-Statement-clause-full
+returns-in_ok-put-in-Statement-clause-full g c = grind (arith, common_steps)
+
+pub returns-in_ok-tell-in-Given-clause-full : goal.returns-in_ok-tell-in-Given-clause-full
+returns-in_ok-tell-in-Given-clause-full g c = grind (arith, common_steps)
+
+pub returns-in_ok-tell-in-Answered-clause-full : goal.returns-in_ok-tell-in-Answered-clause-full
+returns-in_ok-tell-in-Answered-clause-full g c = grind (arith, common_steps)
+
+pub returns-in-Nothing-clause-history : goal.returns-in-Nothing-clause-history
+returns-in-Nothing-clause-history g c = grind (arith, common_steps)
+
+pub returns-in-Nothing-clause-device : goal.returns-in-Nothing-clause-device
+returns-in-Nothing-clause-device g c = grind (arith, common_steps)
+
+pub returns-in_ok-put-in-Statement-clause-device : goal.returns-in_ok-put-in-Statement-clause-device
+returns-in_ok-put-in-Statement-clause-device g c = grind (arith, common_steps)
+
+pub returns-in_ok-put-in-Do-clause-full : goal.returns-in_ok-put-in-Do-clause-full
+returns-in_ok-put-in-Do-clause-full g c = grind (arith, common_steps)

@@ -1,6 +1,7 @@
-use Rattle.std.proofs.Common.{◌∙◌}
+use Rattle.std.proofs.Common.{◌∙◌, arith}
 use Rattle.sys_opening.specs.Owned.{journals_of}
 use Rattle.sys_run.proofs.Taking.{say-history, say-stands}
+use Rattle.std.proofs.lemmas.Grind.{common_steps}
 use Rattle.sys_run.proofs.turn.tell.Goals as goal
 
 pub returns-clause-told : goal.returns-clause-told
@@ -36,3 +37,9 @@ returns-in_err-say-clause-history g c first lists before r w l more stands line_
     say-history first lists before r w l more a.line.now a.number a.sessions.now (O a.bench.now) stands line_is number_is a.answer.now text (c.bytes.ensures ∙ c.in_ok-text.ensures)
     (record { folded = w1.folded; stand = w1.stand; before = s1.before; stopped = s1.stopped; whole = s1.whole }) (O c.say.new.self)
     (c.telling_leaves_the_areas.ensures.images js text a.bench.now c.say.new.self c.say.ensures.crash lists stands.ready stands.kept)
+
+pub returns-clause-not_full : goal.returns-clause-not_full
+returns-clause-not_full g c = grind (arith, common_steps)
+
+pub returns-clause-device : goal.returns-clause-device
+returns-clause-device g c = grind (arith, common_steps)

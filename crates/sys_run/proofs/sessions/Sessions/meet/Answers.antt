@@ -1,4 +1,4 @@
-use Rattle.std.proofs.Common.{◌≡◌, ◌<◌, ◌||◌, ℕ, List, length, Option, Some, refl, sym, ap, ◌∙◌, subst}
+use Rattle.std.proofs.Common.{◌≡◌, ◌<◌, ◌||◌, ℕ, List, length, Option, Some, refl, sym, ap, ◌∙◌, subst, arith}
 use Rattle.dl_base.specs.Limits.{most_actors}
 use Rattle.meaning_run.specs.Running.{met}
 use Rattle.meaning_script.specs.Actors.{actor_of, is_extra, with_actor}
@@ -6,6 +6,7 @@ use Rattle.sys_run.proofs.Lines.{not-false}
 use Rattle.sys_run.proofs.Meeting.{met-more, met-same, no-mark, room-for-one, session-named}
 use Rattle.sys_run.specs.Running.{AreOf}
 use Rattle.sys_run.specs.Sessions.{is_seated}
+use Rattle.std.proofs.lemmas.Grind.{common_steps}
 use Rattle.sys_run.proofs.sessions.Sessions.meet.Goals as goal
 
 pub seat-requires : goal.seat-requires
@@ -35,3 +36,9 @@ returns-else-not-seated-clause-met c r of =
     let v = c.args.self.now in
     let seated = sym (c.is_seated-seated.ensures ∙ ap (is_seated v.actors) c.actor_of.ensures) ∙ c.if-not-seated.false in
     met-same r (actor_of c.args.line.now) v (record v { actors = c.meet.new.self }) of (ap (λ b. b || is_extra v.actors (actor_of c.args.line.now)) seated) refl refl c.in_ok-meet.ensures.known refl
+
+pub returns-in_ok-seat-in-Some-clause-counted : goal.returns-in_ok-seat-in-Some-clause-counted
+returns-in_ok-seat-in-Some-clause-counted c = grind (arith, common_steps)
+
+pub returns-else-not-seated-clause-counted : goal.returns-else-not-seated-clause-counted
+returns-else-not-seated-clause-counted c = grind (arith, common_steps)
