@@ -11,7 +11,7 @@ use Rattle.dl_base.specs.declared.file.File.{File}
 use Rattle.dl_base.specs.declared.value.LinkRow.{LinkRow}
 use Rattle.compare_files.specs.Copies.{all_stand, given_stand, has_bytes, is_archived, is_recovered, is_source, may_stand, open_stands, same_bytes, stands_at}
 use Rattle.compare_files.specs.Effects.{Bytes, after_source, copy_bytes, entry, file_bytes, first_open, of_open, source, sourced}
-use Rattle.compare_links.specs.Every.{IsEvery}
+use Rattle.compare_every.specs.Every.{IsEvery}
 use Rattle.compare_files.specs.Overlay.{IsOverlayOf, Overlay, copy_at, file_at}
 use Rattle.compare_files.proofs.Committed.{committed-apart, copy-is, file-is}
 use Rattle.compare_files.proofs.HaveFiles.{all, both}

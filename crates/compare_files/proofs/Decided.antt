@@ -9,7 +9,7 @@ use Rattle.dl_base.specs.declared.value.LinkNo.{LinkNo}
 use Rattle.dl_base.specs.declared.value.LinkRow.{LinkRow}
 use Rattle.compare_files.specs.Copies.{all_stand, archived_by, has_bytes, is_archived, is_recovered, stands_at}
 use Rattle.compare_files.specs.Effects.{Entries}
-use Rattle.compare_links.specs.Every.{IsEvery}
+use Rattle.compare_every.specs.Every.{IsEvery}
 use Rattle.compare_files.specs.Numbers.{IsNumbersOf}
 use Rattle.compare_files.specs.Overlay.{IsOverlayOf, Overlay, copy_at, file_at}
 use Rattle.compare_files.proofs.Archived.{all-fit, fits-bytes, fits-every, fits-given, fits-stored}

@@ -10,8 +10,8 @@ use Rattle.dl_base.specs.declared.value.Row.{Row}
 use Rattle.dl_base.specs.declared.value.Value.{Value}
 use Rattle.meaning_tables.specs.Links.{cell_links, row_links, table_links}
 use Rattle.meaning_tables.specs.Tables.{Rows}
-use Rattle.compare_links.proofs.Deciding.{false_true}
-use Rattle.compare_links.proofs.Moved.{Found}
+use Rattle.compare_every.proofs.Deciding.{false_true}
+use Rattle.compare_every.proofs.Rows.{Found}
 use Rattle.compare_links.specs.Moving.{all_agree, are_plain, is_plain}
 
 -- columns without links

@@ -17,10 +17,10 @@ use Rattle.meaning_settling.specs.Settled.{AreDistinct, IsNot, settle_open, sett
 use Rattle.meaning_settling.specs.Settling.{Kept, Moved, settle_one}
 use Rattle.meaning_tables.specs.Links.{links}
 use Rattle.meaning_tables.specs.Tables.{Tables}
-use Rattle.compare_links.proofs.Deciding.{decides-no, decides-yes, refuted, some_none}
+use Rattle.compare_every.proofs.Deciding.{decides-no, decides-yes, refuted, some_none}
 use Rattle.compare_links.proofs.Folded.{EndedHave, ended-have}
 use Rattle.compare_links.specs.Comparing.{ComparesTo}
-use Rattle.compare_links.specs.Every.{IsEvery}
+use Rattle.compare_every.specs.Every.{IsEvery}
 use Rattle.compare_links.specs.Fitting.{BranchFits, BranchesApart, CommitFits, CommitsFit, EachBranch, EachCommit, HavePaths, HeldFits, LinksFit, held_settled, settle_held}
 
 -- commits of distinct transactions

@@ -24,7 +24,7 @@ use Rattle.meaning_settling.specs.Settling.{Moved, held_after, held_by, on, path
 use Rattle.meaning_tables.specs.Fits.{fits}
 use Rattle.meaning_tables.specs.Tables.{Tables}
 use Rattle.compare_links.specs.Fitting.{HasOwnPaths}
-use Rattle.compare_links.proofs.Deciding.{false_true, some-if}
+use Rattle.compare_every.proofs.Deciding.{false_true, some-if}
 
 -- what each record keeps holds of all that is folded
 module _ {S : Type 0} (step : S → List ℕ → Option S) (P : S → Type 0) (keeps : (s later : S) (body : List ℕ) → step s body ≡ Some later → P s → P later) where

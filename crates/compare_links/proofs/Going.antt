@@ -23,13 +23,15 @@ use Rattle.meaning_tables.specs.Fits.{Fits}
 use Rattle.meaning_tables.specs.Links.{gives, links, takes}
 use Rattle.meaning_tables.specs.Tables.{Tables}
 use Rattle.compare_links.proofs.Touched.{changed-or-old}
-use Rattle.compare_links.proofs.Deciding.{false_true}
+use Rattle.compare_every.proofs.Deciding.{false_true}
 use Rattle.compare_links.proofs.LinkLists.{drawn-decides, le-decides}
-use Rattle.compare_links.proofs.Moved.{Found, Linked, after-free, each-in, holds-after, in-all, in-each, known-after, linked-after, one-after}
+use Rattle.compare_every.proofs.Rows.{Found}
+use Rattle.compare_links.proofs.Moved.{Linked, after-free, each-in, holds-after, in-all, in-each, known-after, linked-after, one-after}
 use Rattle.compare_links.proofs.Numbers.{IsEveryBelow, every-all, every-more}
 use Rattle.compare_links.proofs.Tests.{done-decides}
-use Rattle.compare_links.proofs.Walks.{below-more, below-none, commit-at, each-below, none_some}
-use Rattle.compare_links.specs.Every.{IsEvery, OneRowEach, agrees, first_row}
+use Rattle.compare_every.proofs.Lists.{none_some}
+use Rattle.compare_links.proofs.Walks.{below-more, below-none, commit-at, each-below}
+use Rattle.compare_every.specs.Every.{IsEvery, OneRowEach, agrees, first_row}
 use Rattle.compare_links.specs.Fitting.{CommitFits, EachCommit, are_drawn, is_done_at}
 use Rattle.compare_links.specs.Moving.{IsStep, StepFits, agrees_in, all_agree, are_free, changed, with_paths, without_paths}
 use Rattle.compare_links.specs.Walking.{HoldsBelow}

@@ -22,10 +22,10 @@ use Rattle.meaning_settling.proofs.KeyedLaws.{either, find-none, is_at-same, is_
 use Rattle.meaning_settling.specs.Keyed.{Keyed, is_at}
 use Rattle.meaning_settling.specs.Settling.{Moved, on}
 use Rattle.meaning_tables.specs.Fits.{differ}
-use Rattle.compare_links.proofs.Deciding.{decides-no, false_true, refuted, some_same}
-use Rattle.compare_links.proofs.Maps.{found-value, value-found}
+use Rattle.compare_every.proofs.Deciding.{decides-no, false_true, refuted, some_same}
+use Rattle.compare_every.proofs.Maps.{found-value, value-found}
 use Rattle.compare_links.proofs.Owning.{open-is}
-use Rattle.compare_links.proofs.Walks.{got, none_some}
+use Rattle.compare_every.proofs.Lists.{got, none_some}
 use Rattle.compare_links.specs.Fitting.{AreAllHeld, HasOwnPaths, HavePaths, held_settled, settle_held, taken_on}
 
 -- LINKS THAT ARE HELD, by their paths

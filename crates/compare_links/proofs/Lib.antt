@@ -1,11 +1,9 @@
 pub mod Agreeing
-pub mod Deciding
 pub mod Fits
 pub mod Folded
 pub mod Going
 pub mod Holding
 pub mod LinkLists
-pub mod Maps
 pub mod Moved
 pub mod Numbers
 pub mod Owning

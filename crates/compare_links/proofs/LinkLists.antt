@@ -5,7 +5,7 @@ use Rattle.std.specs.Bool.{Decides}
 use Rattle.std.specs.List.{list_all}
 use Rattle.dl_base.specs.declared.value.LinkRow.{LinkRow}
 use Rattle.meaning_areas.specs.Stands.{AreDrawn}
-use Rattle.compare_links.proofs.Deciding.{false_true}
+use Rattle.compare_every.proofs.Deciding.{false_true}
 use Rattle.compare_links.specs.Fitting.{are_drawn, is_drawn}
 
 pub le-decides : (a b : ℕ) → Decides (nat_le a b) (a ≤ b)

@@ -15,12 +15,10 @@ use Rattle.meaning_settling.proofs.KeyedLaws.{either, is_at-same, is_at-self, or
 use Rattle.meaning_settling.specs.Keyed.{is_at}
 use Rattle.meaning_settling.specs.Settling.{link_key, numbered}
 use Rattle.meaning_tables.specs.Links.{lacking}
-use Rattle.compare_links.proofs.Deciding.{false_true}
-use Rattle.compare_links.specs.Every.{agrees, first_row}
+use Rattle.compare_every.proofs.Deciding.{false_true}
+use Rattle.compare_every.proofs.Rows.{Found}
+use Rattle.compare_every.specs.Every.{agrees, first_row}
 use Rattle.compare_links.specs.Moving.{agrees_in, are_free, with_path, with_paths, without_paths}
-
-abbrev pub Found : Type 0
-Found = List ℕ → Option LinkRow
 
 abbrev pub Linked : Type 0
 Linked = List ℕ → Bool

@@ -12,8 +12,9 @@ use Rattle.meaning_settling.proofs.KeyedLaws.{any-append, either, is_at-same, is
 use Rattle.meaning_settling.specs.Apart.{has_path}
 use Rattle.meaning_settling.specs.Keyed.{is_at}
 use Rattle.meaning_settling.specs.Settling.{Moved}
-use Rattle.compare_links.proofs.Deciding.{false_true, some_same}
-use Rattle.compare_links.proofs.Walks.{below-more, below-none, left, none_some, number-at}
+use Rattle.compare_every.proofs.Deciding.{false_true, some_same}
+use Rattle.compare_every.proofs.Lists.{left, none_some}
+use Rattle.compare_links.proofs.Walks.{below-more, below-none, number-at}
 use Rattle.compare_links.specs.Fitting.{BranchesApart, are_free_for, has_in_doubt, is_clear, is_free_for}
 use Rattle.compare_links.specs.Walking.{HoldsBelow}
 

@@ -7,8 +7,8 @@ use Rattle.meaning_areas.specs.Commits.{Commit, HaveMoved}
 use Rattle.meaning_areas.specs.Stands.{past}
 use Rattle.meaning_tables.specs.Links.{gives, takes}
 use Rattle.meaning_tables.specs.Tables.{Tables}
-use Rattle.compare_links.proofs.Deciding.{some_same}
-use Rattle.compare_links.proofs.Walks.{none_some}
+use Rattle.compare_every.proofs.Deciding.{some_same}
+use Rattle.compare_every.proofs.Lists.{none_some}
 
 commit-is : (c : Commit) (first before after : Tables) (tx : ℕ) (b : Bool) → first ≡ before → c.tables ≡ after → c.tx ≡ tx → c.branch ≡ b → c.gives ≡ gives first c.tables → c.takes ≡ takes first c.tables → c ≡ commit_between before tx b after
 commit-is c first before after tx b was is number has gave took = (λ i. record {

@@ -4,7 +4,7 @@ use Rattle.dl_base.specs.declared.value.LinkRow.{LinkRow}
 use Rattle.meaning_areas.specs.Branches.{given_on}
 use Rattle.meaning_settling.specs.Keyed.{is_at}
 use Rattle.compare_links.proofs.Moved.{Linked}
-use Rattle.compare_links.proofs.Walks.{left}
+use Rattle.compare_every.proofs.Lists.{left}
 use Rattle.compare_links.specs.Moving.{are_free, with_path, with_paths, without_paths}
 
 module _ (items all : List LinkRow) (i : ℕ) (l : LinkRow) (same : items ≡ all) (within : i < length items) (is : l ≡ get_or items i l) (old new : Linked) where

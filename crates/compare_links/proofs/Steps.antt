@@ -20,9 +20,9 @@ use Rattle.meaning_merge.proofs.Committed.{sub-self, sub-trans}
 use Rattle.meaning_merge.specs.History.{Subsequence, ends, keeps, leaves}
 use Rattle.meaning_tables.specs.Fits.{fits}
 use Rattle.meaning_tables.specs.Tables.{Rows, Tables, table_of, with_table, without_table}
-use Rattle.compare_links.proofs.Deciding.{some-if, some_same}
+use Rattle.compare_every.proofs.Deciding.{some-if, some_same}
 use Rattle.compare_links.proofs.Folded.{folded-keeps}
-use Rattle.compare_links.proofs.Walks.{none_some}
+use Rattle.compare_every.proofs.Lists.{none_some}
 use Rattle.compare_links.specs.Moving.{AreSteps, IsStep, unchanged}
 
 changed-version : (t later : Rows) (made : List RowChange) → changed_rows t made ≡ Some later → later.version ≡ t.version

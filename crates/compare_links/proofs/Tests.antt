@@ -8,7 +8,7 @@ use Rattle.meaning_areas.specs.Branches.{Branch, branch, is_phase}
 use Rattle.meaning_areas.specs.Commits.{Commits, commit_of}
 use Rattle.meaning_areas.specs.Stands.{is_past}
 use Rattle.meaning_settling.specs.Settling.{Moved}
-use Rattle.compare_links.proofs.Deciding.{false_true, some_none, some_same}
+use Rattle.compare_every.proofs.Deciding.{false_true, some_none, some_same}
 use Rattle.compare_links.proofs.LinkLists.{drawn-decides, le-decides}
 use Rattle.compare_links.specs.Fitting.{BranchFits, IsDoneAt, are_drawn, branch_fits, is_done_at}
 use Rattle.compare_links.specs.Walking.{IfThere}

@@ -13,7 +13,7 @@ use Rattle.meaning_merge.specs.Touching.{In}
 use Rattle.meaning_tables.specs.Fits.{Fits}
 use Rattle.meaning_tables.specs.Links.{gives, links, table_links, takes}
 use Rattle.meaning_tables.specs.Tables.{Rows, Tables, table_of}
-use Rattle.compare_links.proofs.Deciding.{false_true}
+use Rattle.compare_every.proofs.Deciding.{false_true}
 use Rattle.compare_links.specs.Moving.{IsStep, changed, is_lost, lost, unchanged}
 
 -- NAMES

@@ -5,7 +5,7 @@ use Rattle.dl_base.specs.declared.value.LinkRow.{LinkRow}
 use Rattle.meaning_areas.specs.Areas.{ComparesAt}
 use Rattle.meaning_areas.specs.Lists.{Folds}
 use Rattle.meaning_settling.specs.Keyed.{Keyed}
-use Rattle.compare_links.specs.Every.{IsEvery}
+use Rattle.compare_every.specs.Every.{IsEvery}
 
 -- nothing where it fails, else the links of all commits by their numbers
 abbrev pub ComparesTo : Folds → Option (Keyed LinkRow) → Type 0

@@ -13,7 +13,7 @@ use Rattle.meaning_settling.specs.Keyed.{Keyed, is_at, over}
 use Rattle.meaning_settling.specs.Settling.{Moved, held_after, on, paths_of}
 use Rattle.meaning_tables.specs.Fits.{differ}
 use Rattle.meaning_tables.specs.Links.{links}
-use Rattle.compare_links.specs.Every.{IsEvery, OneRowEach}
+use Rattle.compare_every.specs.Every.{IsEvery, OneRowEach}
 
 -- no two links are on one path
 abbrev pub paths_differ : List LinkRow → Bool

@@ -17,7 +17,7 @@ use Rattle.meaning_settling.specs.Settling.{link_key}
 use Rattle.meaning_tables.specs.Fits.{Fits}
 use Rattle.meaning_tables.specs.Links.{links}
 use Rattle.meaning_tables.specs.Tables.{Rows, Tables, table_of}
-use Rattle.compare_links.specs.Every.{agrees}
+use Rattle.compare_every.specs.Every.{agrees}
 use Rattle.compare_links.specs.Fitting.{IsDoneAt}
 
 -- TABLES that the commit of a number changed: they have its number as their version

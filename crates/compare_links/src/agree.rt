@@ -3,12 +3,12 @@ ghost use Rattle.std.specs.Prelude.{◌≡◌, ◌↔◌, IsTrue};
 ghost use Rattle.std.specs.BTreeMap.{get};
 ghost use Rattle.std.specs.Cmp.Lexicographic.{slice_cmp};
 ghost use Rattle.std.specs.Ordering.{nat_cmp};
-ghost use Rattle.compare_links.specs.Every.{agrees};
+ghost use Rattle.compare_every.specs.Every.{agrees};
 ghost use Rattle.compare_links.specs.Moving.{all_agree, are_plain, is_plain};
 ghost use Rattle.meaning_settling.specs.Settling.{link_key};
 ghost use Rattle.meaning_tables.specs.Links as meant;
 
-use crate::every::number_of;
+use compare_every::number_of;
 use dl_base::{Column, Kind, LinkNo, LinkRow, List, Options, Path, Row, Same, Value};
 use sql_table::{Table, Tables};
 use std::collections::BTreeMap;

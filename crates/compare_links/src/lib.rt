@@ -9,11 +9,9 @@ mod branches;
 mod changed;
 mod commits;
 mod compare;
-mod every;
 mod held;
 mod paths;
 mod rows;
 mod walk;
 
 pub use compare::links_compare;
-pub use every::EveryLink;

@@ -24,7 +24,7 @@ use Rattle.sys_core.specs.Standing.{IsOf}
 use Rattle.sys_core.specs.declared.engine.Engine.{Engine}
 use Rattle.sys_opening.proofs.Records.{same-folds}
 use Rattle.sys_opening.specs.Begun.{HasBegun}
-use Rattle.sys_opening.specs.Owned.{folds_in}
+use Rattle.sys_owners.specs.Owned.{folds_in}
 use Rattle.sys_run.proofs.Images.{Laws}
 use Rattle.sys_run.specs.Running.{AreOf, Stands}
 use Rattle.sys_run.specs.Sessions as showing

@@ -9,7 +9,7 @@ use Rattle.dl_base.specs.declared.fault.Full.{Full}
 use Rattle.fm_manager.specs.Managed.{as_writes}
 use Rattle.meaning_run.specs.Running.{AreRead, IsRead, Read, Run, after, written}
 use Rattle.sys_core.specs.declared.engine.Engine.{Engine}
-use Rattle.sys_opening.specs.Owned.{journals_of}
+use Rattle.sys_owners.specs.Owned.{journals_of}
 use Rattle.sys_run.proofs.Images.{none-full}
 use Rattle.sys_run.proofs.Lines.{Follow, later-full, later-grown, later-stands, moment-later}
 use Rattle.sys_run.specs.Running.{HasGrown, IsAtLine, IsFullIn, IsInRun, IsPastLine, Stands, StandsAfter}

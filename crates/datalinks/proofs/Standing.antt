@@ -10,10 +10,11 @@ use Rattle.meaning_areas.specs.Areas.{Areas, AreasStand, ComparesAt, IsUnlike, a
 use Rattle.meaning_areas.specs.FilesArea.{files_of}
 use Rattle.meaning_areas.specs.Lists.{Folds}
 use Rattle.meaning_areas.specs.Stands.{Stored, stored_of}
-use Rattle.sys_opening.proofs.Reading.{all-read, read-ok}
+use Rattle.sys_owners.proofs.Reading.{all-read, read-ok}
 use Rattle.sys_opening.specs.Begun.{AreFound}
-use Rattle.sys_opening.specs.Owned.{AreTold}
-use Rattle.sys_recovery.specs.Left.{EveryImageStands, areas_of}
+use Rattle.sys_owners.specs.Owned.{AreTold}
+use Rattle.sys_recovery.specs.Left.{areas_of}
+use Rattle.sys_reopening.specs.Again.{EveryImageStands}
 use Rattle.datalinks.specs.Run.{Begun, IsInside, IsNoStore}
 
 module _ (lists : Lists) (f : Folds) (o : Outside) (found : AreFound lists f o) where

@@ -17,9 +17,9 @@ use Rattle.meaning_run.specs.Running.{after, written}
 use Rattle.meaning_system.specs.Writes.{opening}
 use Rattle.sys_core.specs.declared.engine.Engine.{Engine}
 use Rattle.sys_opening.specs.Begun.{AreFound, IsOfOpening}
-use Rattle.sys_opening.specs.Owned.{journals_of}
 use Rattle.sys_opening.specs.declared.fault.OpenFault.{OpenFault}
 use Rattle.sys_opening.specs.declared.fault.OpenFault.TheVariants as opens
+use Rattle.sys_owners.specs.Owned.{journals_of}
 use Rattle.sys_run.proofs.Images.{Laws, stays}
 use Rattle.sys_run.proofs.Lines.{as-more}
 use Rattle.sys_run.specs.Running.{HasGrown, IsFullIn, IsInRun, StandsAfter}

@@ -2,7 +2,7 @@
 use Rattle.dl_base.specs.Outside.{Outside}
 use Rattle.meaning_areas.specs.Areas.{Areas, AreasStand}
 use Rattle.meaning_areas.specs.Stands.{Stored}
-use Rattle.sys_opening.specs.Owned.{AreTold}
+use Rattle.sys_owners.specs.Owned.{AreTold}
 use Rattle.datalinks.specs.declared.status.Status.{Status}
 use Rattle.datalinks.specs.declared.status.Status.TheVariants as status
 

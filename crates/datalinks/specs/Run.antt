@@ -18,7 +18,7 @@ use Rattle.meaning_system.specs.Recovering.{Recovers}
 use Rattle.meaning_system.specs.Writes.{opening}
 use Rattle.run_args.specs.Words.{settings}
 use Rattle.sys_opening.specs.Begun.{AreFound, IsOfOpening}
-use Rattle.sys_opening.specs.Owned.{AreTold}
+use Rattle.sys_owners.specs.Owned.{AreTold}
 use Rattle.sys_recovery.specs.Left.{areas_of}
 use Rattle.sys_run.specs.Running.{IsFullIn, IsInRun}
 

@@ -13,8 +13,9 @@ ghost use Rattle.datalinks.specs.Complete.{IsDone, WasRead, WasOpened, StandsNow
 ghost use Rattle.datalinks.specs.Run.{Begun, Begins, BeginsWith, HasRoom, IsFullAt, IsInside, IsNoStore, IsWholeRun};
 ghost use Rattle.datalinks.specs.Script.{IsTooLong, most_bytes};
 ghost use Rattle.run_args.specs.Words.{settings};
-ghost use Rattle.sys_opening.specs.Owned.{AreTold};
-ghost use Rattle.sys_recovery.specs.Left.{EveryImageStands, areas_of};
+ghost use Rattle.sys_owners.specs.Owned.{AreTold};
+ghost use Rattle.sys_recovery.specs.Left.{areas_of};
+ghost use Rattle.sys_reopening.specs.Again.{EveryImageStands};
 
 use crate::run::run_lines;
 use crate::script::{ScriptFault, read_script};
@@ -24,9 +25,10 @@ use dl_base::{Bench, Settings, Source, StepFault, Text};
 use meaning_run::scripts_have_one_run;
 use run_args::{WordsFault, read_words};
 use std::alloc::Global;
-use sys_core::{Engine, steps_leave_other_sessions};
+use sys_core::steps_leave_other_sessions;
 use sys_opening::OpenFault;
-use sys_recovery::{a_stopped_opening_stands, stopped_steps_stand, what_is_written_is_read};
+use sys_recovery::{stopped_steps_stand, what_is_written_is_read};
+use sys_reopening::a_stopped_opening_stands;
 use sys_run::Sessions;
 
 /// Does the command that the words name, on one thread: `run` reads a script from the source, opens the five areas of the bench, does the
@@ -144,7 +146,7 @@ fn run<B: Bench>(alloc: Global, mut bench: B, given: Settings, script: &[u8]) ->
     steps_leave_other_sessions();
     stopped_steps_stand();
     what_is_written_is_read();
-    match Engine::open(alloc, &mut bench, given) {
+    match sys_start::open(alloc, &mut bench, given) {
         Ok(mut engine) => {
             let mut sessions = Sessions::new(alloc);
             match run_lines(alloc, &mut engine, &mut sessions, &mut bench, script) {

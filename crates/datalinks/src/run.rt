@@ -5,7 +5,7 @@ ghost use Rattle.dl_base.specs.Outside.{AtEveryMoment, FaultCounted};
 ghost use Rattle.dl_base.specs.declared.fault.Full.{Full};
 ghost use Rattle.datalinks.specs.Lines.{IsAtScript, IsPastScript};
 ghost use Rattle.meaning_run.specs.Running.{Run};
-ghost use Rattle.sys_opening.specs.Owned.{journals_of};
+ghost use Rattle.sys_owners.specs.Owned.{journals_of};
 ghost use Rattle.sys_run.specs.Running.{HasGrown, IsFullIn, IsInRun, Stands, StandsAfter};
 
 use dl_areas::records_in_parts;

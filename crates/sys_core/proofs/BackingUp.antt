@@ -51,7 +51,7 @@ use Rattle.sys_core.specs.Seated.{AreSeated, IsSeat}
 use Rattle.sys_core.specs.Standing.{IsOf}
 use Rattle.sys_core.specs.Steps.{Steps, records_of}
 use Rattle.sys_core.specs.declared.engine.Engine.{Engine}
-use Rattle.sys_opening.specs.Owned.{Owned, folds_in, journals_of}
+use Rattle.sys_owners.specs.Owned.{Owned, folds_in, journals_of}
 use Rattle.sys_seats.specs.Seats.{Seated, first_bound, phase_of, phases_in, unfinished_of}
 use Rattle.sys_seats.specs.declared.seat.Seat.{Seat}
 

@@ -43,8 +43,8 @@ use Rattle.sys_core.specs.Seated.{IsSeat, IsSeatOf, shown_by}
 use Rattle.sys_core.specs.Standing.{IsOf}
 use Rattle.sys_core.specs.Steps.{Shows, StepsInMemory, draws_by, records_of, undrawn}
 use Rattle.sys_core.specs.declared.engine.Engine.{Engine}
-use Rattle.sys_opening.proofs.InARow.{append-nil}
-use Rattle.sys_opening.specs.Owned.{folds_in, journals_of}
+use Rattle.sys_owners.proofs.InARow.{append-nil}
+use Rattle.sys_owners.specs.Owned.{folds_in, journals_of}
 use Rattle.sys_seats.specs.Seats.{all_of, count_at, gives_of, votes_of}
 use Rattle.sys_seats.specs.declared.seat.Seat.{Seat}
 use Rattle.sys_seats.specs.declared.seat.Stage.TheVariants as stages

@@ -21,8 +21,8 @@ use Rattle.sys_core.specs.Between.{IsBetween, votes_in}
 use Rattle.sys_core.specs.Seated.{AreSeated, IsSeat, IsSeatOf, let_go}
 use Rattle.sys_core.specs.Standing.{IsOf}
 use Rattle.sys_core.specs.declared.engine.Engine.{Engine}
-use Rattle.sys_opening.proofs.Placing.{with_store}
-use Rattle.sys_opening.specs.Owned.{Owned, folds_in}
+use Rattle.sys_owners.proofs.Placing.{with_store}
+use Rattle.sys_owners.specs.Owned.{Owned, folds_in}
 use Rattle.sys_seats.specs.Seats.{Seated, all_of, count_at, gives_of, votes_of, with_stage}
 use Rattle.sys_seats.specs.declared.seat.Seat.{Seat}
 use Rattle.sys_seats.specs.declared.seat.Stage.TheVariants as stages

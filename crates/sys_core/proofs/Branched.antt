@@ -9,8 +9,8 @@ use Rattle.meaning_system.specs.State.{has_links}
 use Rattle.meaning_system.specs.Writes.{prepared, taken_by, when}
 use Rattle.sys_core.proofs.Spelled.{as-spelled}
 use Rattle.sys_core.specs.Restoring.{moving}
-use Rattle.sys_opening.proofs.Taking.{taken-anywhere}
-use Rattle.sys_opening.specs.Owned.{Owned, folds_in}
+use Rattle.sys_owners.proofs.Taking.{taken-anywhere}
+use Rattle.sys_owners.specs.Owned.{Owned, folds_in}
 
 module _ (tx : ℕ) (gives takes : List LinkRow) (fill : Bool) where
   pub nothing-prepared : has_links (moving gives takes fill) ≡ false → prepared tx (moving gives takes fill) ≡ []

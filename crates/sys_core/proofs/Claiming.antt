@@ -27,7 +27,7 @@ use Rattle.sys_core.specs.Guarded.{claim_in, committed_in}
 use Rattle.sys_core.specs.Seated.{is_doomed_at}
 use Rattle.sys_core.specs.Standing.{IsOf}
 use Rattle.sys_core.specs.declared.engine.Engine.{Engine}
-use Rattle.sys_opening.specs.Owned.{folds_in}
+use Rattle.sys_owners.specs.Owned.{folds_in}
 
 -- what claims by paths answer
 abbrev pub BusyIsFound : Type 0

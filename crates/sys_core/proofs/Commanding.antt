@@ -48,8 +48,8 @@ use Rattle.sys_core.specs.Seated.{AreSeated, IsAtStage, IsSeat}
 use Rattle.sys_core.specs.Standing.{IsOf}
 use Rattle.sys_core.specs.Steps.{Steps, records_of}
 use Rattle.sys_core.specs.declared.engine.Engine.{Engine}
-use Rattle.sys_opening.proofs.Placing.{with_manager}
-use Rattle.sys_opening.specs.Owned.{folds_in, journals_of}
+use Rattle.sys_owners.proofs.Placing.{with_manager}
+use Rattle.sys_owners.specs.Owned.{folds_in, journals_of}
 use Rattle.sys_seats.specs.Seats.{Seated}
 use Rattle.sys_seats.specs.declared.seat.Seat.{Seat}
 use Rattle.sys_seats.specs.declared.seat.Stage.{Stage}

@@ -59,9 +59,9 @@ use Rattle.sys_core.specs.Seated.{HasTxn, IsAtStage, let_go, making_of, shown_by
 use Rattle.sys_core.specs.Standing.{IsOf}
 use Rattle.sys_core.specs.Steps.{Shows, Steps, as_step, records_of}
 use Rattle.sys_core.specs.declared.engine.Engine.{Engine}
-use Rattle.sys_opening.proofs.Placing.{store-does, with_store}
-use Rattle.sys_opening.proofs.Taking.{AreManaged, taken-anywhere}
-use Rattle.sys_opening.specs.Owned.{folds_in, journals_of}
+use Rattle.sys_owners.proofs.Placing.{store-does, with_store}
+use Rattle.sys_owners.proofs.Taking.{AreManaged, taken-anywhere}
+use Rattle.sys_owners.specs.Owned.{folds_in, journals_of}
 use Rattle.sys_seats.specs.Seats.{Seated, gives_at, votes_at, with_stage}
 use Rattle.sys_seats.specs.declared.seat.Seat.{Seat}
 use Rattle.sys_seats.specs.declared.seat.Stage.{Stage}

@@ -10,7 +10,7 @@ use Rattle.sys_core.proofs.Seating.{ArePiecesKept, less-here, less-there, seated
 use Rattle.sys_core.specs.Seated.{IsSeat}
 use Rattle.sys_core.specs.Standing.{HasRoom, IsOf}
 use Rattle.sys_core.specs.declared.engine.Engine.{Engine}
-use Rattle.sys_opening.specs.Owned.{folds_in}
+use Rattle.sys_owners.specs.Owned.{folds_in}
 use Rattle.sys_seats.specs.Seats.{Seated, all_of, count_at, gives_of, votes_of}
 use Rattle.sys_seats.specs.declared.seat.Seat.{Seat}
 

@@ -25,7 +25,7 @@ use Rattle.sys_core.specs.Seated.{IsSeatOf, making_of}
 use Rattle.sys_core.specs.Standing.{IsOf}
 use Rattle.sys_core.specs.Voting.{CanEnter, CanVote, HaveMoreRoom, Votes}
 use Rattle.sys_core.specs.declared.engine.Engine.{Engine}
-use Rattle.sys_opening.specs.Owned.{Owned, folds_in, journals_of}
+use Rattle.sys_owners.specs.Owned.{Owned, folds_in, journals_of}
 use Rattle.sys_seats.specs.Seats.{Seated, all_of, gives_of, votes_of, with_stage}
 use Rattle.sys_seats.specs.declared.seat.Seat.{Seat}
 use Rattle.sys_seats.specs.declared.seat.Stage.TheVariants as stages

@@ -52,9 +52,9 @@ use Rattle.sys_core.specs.Seated.{HasTxn, IsAtStage, let_go}
 use Rattle.sys_core.specs.Standing.{IsOf}
 use Rattle.sys_core.specs.Steps.{Steps}
 use Rattle.sys_core.specs.declared.engine.Engine.{Engine}
-use Rattle.sys_opening.proofs.InARow.{taken-first}
-use Rattle.sys_opening.proofs.Taking.{finish-last, part-managed, taken-anywhere}
-use Rattle.sys_opening.specs.Owned.{Owned, folds_in, journals_of}
+use Rattle.sys_owners.proofs.InARow.{taken-first}
+use Rattle.sys_owners.proofs.Taking.{finish-last, part-managed, taken-anywhere}
+use Rattle.sys_owners.specs.Owned.{Owned, folds_in, journals_of}
 use Rattle.sys_seats.specs.Seats.{Seated, gives_at, votes_at, with_stage}
 use Rattle.sys_seats.specs.declared.seat.Seat.{Seat}
 use Rattle.sys_seats.specs.declared.seat.Stage.{Stage}

@@ -26,7 +26,7 @@ use Rattle.sys_core.specs.Guarded.{claim_in, committed_in, forbidden_in, forbidd
 use Rattle.sys_core.specs.Seated.{AreSeated, IsAtStage, IsSeat}
 use Rattle.sys_core.specs.Standing.{IsOf}
 use Rattle.sys_core.specs.declared.engine.Engine.{Engine}
-use Rattle.sys_opening.specs.Owned.{folds_in}
+use Rattle.sys_owners.specs.Owned.{folds_in}
 use Rattle.sys_seats.specs.Seats.{Seated, phase_of}
 use Rattle.sys_seats.specs.declared.seat.Seat.{Seat}
 use Rattle.sys_seats.specs.declared.seat.Stage.{Stage}

@@ -27,7 +27,6 @@ pub mod Roomy
 pub mod Seating
 pub mod Separate
 pub mod Spelled
-pub mod Starting
 pub mod Stating
 pub mod Stepped
 pub mod Ticking

@@ -7,8 +7,8 @@ use Rattle.dl_base.specs.declared.area.Area.{Area}
 use Rattle.dl_base.specs.declared.area.Area.TheVariants.{Rows, Links, Files, Archive, Backups}
 use Rattle.dl_base.specs.declared.fault.StepFault.{StepFault}
 use Rattle.fm_manager.specs.Managed.{Managed, ManagesStep, with_managed}
-use Rattle.sys_opening.proofs.Placing.{with_manager}
-use Rattle.sys_opening.specs.Owned.{Owned, journals_of}
+use Rattle.sys_owners.proofs.Placing.{with_manager}
+use Rattle.sys_owners.specs.Owned.{Owned, journals_of}
 
 manager-in : (w : Owned) (m : Managed) → with_managed m (journals_of w) ≡ journals_of (with_manager w m)
 manager-in w m = λ i a. each a i
@@ -20,7 +20,7 @@ manager-in w m = λ i a. each a i
     each Archive = refl
     each Backups = refl
 
--- beside `manager-does` of sys_opening, which is of calls that take no memory
+-- beside `manager-does` of sys_owners, which is of calls that take no memory
 pub manager-ends : (w : Owned) (ws : List Write) (fault : Option StepFault) (o n : Outside) → AreReady (journals_of w) o
     → (m : Managed) → ManagesStep w.manager m ws fault o n → Ends (journals_of w) (journals_of (with_manager w m)) ws fault o n
 manager-ends w ws fault o n ready m call = subst (λ (ks : Journals). Ends (journals_of w) ks ws fault o n) (manager-in w m) (call.ends (journals_of w) ready (manager-in w w.manager))

@@ -30,10 +30,10 @@ use Rattle.meaning_system.specs.Writes.{prepared, taken_by, when, whole_finish}
 use Rattle.sys_core.proofs.Branched.{something-prepared}
 use Rattle.sys_core.specs.Restoring.{ArePieces, CanCommit, CanSettle, CanWrite, HasMade, MaySettle, commit_part, moved_in, restore_part}
 use Rattle.sys_core.specs.declared.restoring.Restoration.{Restoration}
-use Rattle.sys_opening.proofs.InARow.{folds-then, taken-first, writes-append}
-use Rattle.sys_opening.proofs.Placing.{with_manager, with_store}
-use Rattle.sys_opening.proofs.Taking.{finish-last, part-managed, taken-anywhere}
-use Rattle.sys_opening.specs.Owned.{Owned, folds_in, journals_of}
+use Rattle.sys_owners.proofs.InARow.{folds-then, taken-first, writes-append}
+use Rattle.sys_owners.proofs.Placing.{with_manager, with_store}
+use Rattle.sys_owners.proofs.Taking.{finish-last, part-managed, taken-anywhere}
+use Rattle.sys_owners.specs.Owned.{Owned, folds_in, journals_of}
 
 false_true : false ≡ true → ⊥
 false_true e = cc

@@ -22,7 +22,7 @@ use Rattle.sys_core.specs.Seated.{HasTxn, shown_by}
 use Rattle.sys_core.specs.Standing.{IsOf}
 use Rattle.sys_core.specs.Steps.{Shows, Steps, StepsInMemory, records_of}
 use Rattle.sys_core.specs.declared.engine.Engine.{Engine}
-use Rattle.sys_opening.specs.Owned.{journals_of}
+use Rattle.sys_owners.specs.Owned.{journals_of}
 
 -- THE MACHINE ANSWERS THIS, and nothing changes or is written
 pub record Leaves (s : State) (x : Step) (answer : Answer) : Type 0 where

@@ -75,8 +75,8 @@ use Rattle.sys_core.specs.Steps.{Steps, draws_for, records_of, undrawn}
 use Rattle.sys_core.specs.Voting.{HaveMoreRoom}
 use Rattle.sys_core.specs.declared.engine.Engine.{Engine}
 use Rattle.sys_core.specs.declared.restoring.Restoration.{Restoration}
-use Rattle.sys_opening.proofs.Spelling.{finish-spelled}
-use Rattle.sys_opening.specs.Owned.{Owned, folds_in, journals_of}
+use Rattle.sys_owners.proofs.Spelling.{finish-spelled}
+use Rattle.sys_owners.specs.Owned.{Owned, folds_in, journals_of}
 use Rattle.sys_seats.specs.Seats.{all_of, gives_of, votes_of}
 
 none_some : {A : Type 0} (x : A) → None ≡ Some x → ⊥

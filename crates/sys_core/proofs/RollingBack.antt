@@ -33,8 +33,8 @@ use Rattle.sys_core.specs.Seated.{AreSeated, IsAtStage, IsSeatOf, let_go, shown_
 use Rattle.sys_core.specs.Standing.{IsOf}
 use Rattle.sys_core.specs.Steps.{Shows, Steps, as_step}
 use Rattle.sys_core.specs.declared.engine.Engine.{Engine}
-use Rattle.sys_opening.proofs.Taking.{AreManaged, taken-anywhere}
-use Rattle.sys_opening.specs.Owned.{folds_in, journals_of}
+use Rattle.sys_owners.proofs.Taking.{AreManaged, taken-anywhere}
+use Rattle.sys_owners.specs.Owned.{folds_in, journals_of}
 use Rattle.sys_seats.specs.Seats.{Seated}
 use Rattle.sys_seats.specs.declared.seat.Seat.{Seat}
 use Rattle.sys_seats.specs.declared.seat.Stage.{Stage}

@@ -9,7 +9,7 @@ use Rattle.meaning_system.specs.State.{State}
 use Rattle.sys_core.specs.Standing.{IsOf}
 use Rattle.sys_core.specs.Voting.{HaveMoreRoom}
 use Rattle.sys_core.specs.declared.engine.Engine.{Engine}
-use Rattle.sys_opening.specs.Owned.{Owned, folds_in, journals_of}
+use Rattle.sys_owners.specs.Owned.{Owned, folds_in, journals_of}
 
 -- the manager
 

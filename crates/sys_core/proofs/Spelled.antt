@@ -40,7 +40,7 @@ use Rattle.sys_core.proofs.Seating.{seat-moved}
 use Rattle.sys_core.specs.Between.{DecidesTo, IsBetween}
 use Rattle.sys_core.specs.Seated.{IsSeatOf, making_of}
 use Rattle.sys_core.specs.declared.engine.Engine.{Engine}
-use Rattle.sys_opening.proofs.Taking.{finish-last}
+use Rattle.sys_owners.proofs.Taking.{finish-last}
 use Rattle.sys_seats.specs.declared.seat.Seat.{Seat}
 
 -- the same records

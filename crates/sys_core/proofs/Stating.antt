@@ -52,7 +52,7 @@ use Rattle.sys_core.specs.Seated.{IsAtStage, IsSeat, IsSeatOf, shown_by}
 use Rattle.sys_core.specs.Standing.{IsOf}
 use Rattle.sys_core.specs.Steps.{Answers, Shows, StepsInMemory, records_of}
 use Rattle.sys_core.specs.declared.engine.Engine.{Engine}
-use Rattle.sys_opening.specs.Owned.{folds_in, journals_of}
+use Rattle.sys_owners.specs.Owned.{folds_in, journals_of}
 use Rattle.sys_seats.specs.Seats.{Seated, all_of, count_at, gives_at, gives_of, votes_at, votes_of, with_claim}
 use Rattle.sys_seats.specs.declared.seat.Seat.{Seat}
 use Rattle.sys_seats.specs.declared.seat.Stage.{Stage}

@@ -47,9 +47,9 @@ use Rattle.sys_core.specs.Standing.{IsOf}
 use Rattle.sys_core.specs.Steps.{Steps, records_of}
 use Rattle.sys_core.specs.Voting.{HaveMoreRoom}
 use Rattle.sys_core.specs.declared.engine.Engine.{Engine}
-use Rattle.sys_opening.proofs.Placing.{manager-does, with_manager}
-use Rattle.sys_opening.proofs.Taking.{taken-anywhere}
-use Rattle.sys_opening.specs.Owned.{Owned, folds_in, journals_of}
+use Rattle.sys_owners.proofs.Placing.{manager-does, with_manager}
+use Rattle.sys_owners.proofs.Taking.{taken-anywhere}
+use Rattle.sys_owners.specs.Owned.{Owned, folds_in, journals_of}
 use Rattle.sys_seats.specs.Seats.{all_of, gives_of}
 
 none_some : {A : Type 0} (x : A) → None ≡ Some x → ⊥

@@ -20,7 +20,7 @@ use Rattle.sys_core.proofs.Seating.{pieces-same}
 use Rattle.sys_core.specs.Standing.{IsOf}
 use Rattle.sys_core.specs.Steps.{StepsInMemory, records_of}
 use Rattle.sys_core.specs.declared.engine.Engine.{Engine}
-use Rattle.sys_opening.specs.Owned.{folds_in}
+use Rattle.sys_owners.specs.Owned.{folds_in}
 
 -- the state behind it
 abbrev pub ticked : State → ℕ → State

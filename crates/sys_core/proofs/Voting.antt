@@ -25,7 +25,7 @@ use Rattle.sys_core.specs.Seated.{IsSeatOf, is_doomed_at}
 use Rattle.sys_core.specs.Standing.{IsOf}
 use Rattle.sys_core.specs.Voting.{CanVote}
 use Rattle.sys_core.specs.declared.engine.Engine.{Engine}
-use Rattle.sys_opening.specs.Owned.{folds_in}
+use Rattle.sys_owners.specs.Owned.{folds_in}
 use Rattle.sys_seats.specs.declared.seat.Seat.{Seat}
 
 -- a transaction has a seat, and this is it

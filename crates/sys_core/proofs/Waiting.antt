@@ -33,7 +33,7 @@ use Rattle.sys_core.specs.Numbered.{of_number}
 use Rattle.sys_core.specs.Seated.{phase_at}
 use Rattle.sys_core.specs.Standing.{IsOf}
 use Rattle.sys_core.specs.declared.engine.Engine.{Engine}
-use Rattle.sys_opening.specs.Owned.{folds_in}
+use Rattle.sys_owners.specs.Owned.{folds_in}
 
 -- AN ENGINE IN A STATE
 module _ (first : ℕ) (w : Engine) (s : State) (is : IsOf first w s) where

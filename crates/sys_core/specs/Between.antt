@@ -16,7 +16,7 @@ use Rattle.meaning_system.specs.State.{State, Txn, kept_in, moved_of, tables_of,
 use Rattle.meaning_system.specs.Writes.{whole_finish}
 use Rattle.sys_core.specs.Seated.{HasTxn, IsSeat, making_of}
 use Rattle.sys_core.specs.declared.engine.Engine.{Engine}
-use Rattle.sys_opening.specs.Owned.{Owned, folds_in}
+use Rattle.sys_owners.specs.Owned.{Owned, folds_in}
 use Rattle.sys_seats.specs.Seats.{all_of, gives_of, votes_of}
 use Rattle.sys_seats.specs.declared.seat.SeatClaim.{SeatClaim}
 use Rattle.sys_seats.specs.declared.seat.Stage.TheVariants as stages

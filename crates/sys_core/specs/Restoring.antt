@@ -24,7 +24,7 @@ use Rattle.meaning_system.specs.Writes.{prepared, whole_finish}
 use Rattle.sys_core.specs.Standing.{IsOf}
 use Rattle.sys_core.specs.declared.engine.Engine.{Engine}
 use Rattle.sys_core.specs.declared.restoring.Restoration.{Restoration}
-use Rattle.sys_opening.specs.Owned.{Owned, folds_in}
+use Rattle.sys_owners.specs.Owned.{Owned, folds_in}
 use Rattle.sys_seats.specs.Seats.{all_of, gives_of, votes_of}
 
 -- these links are given and taken, those with RECOVERY YES among the taken ones to be filled, or none

@@ -5,7 +5,7 @@ use Rattle.meaning_history.specs.Sound.{AreSound}
 use Rattle.meaning_system.specs.State.{State}
 use Rattle.sys_core.specs.Seated.{AreSeated}
 use Rattle.sys_core.specs.declared.engine.Engine.{Engine}
-use Rattle.sys_opening.specs.Owned.{folds_in}
+use Rattle.sys_owners.specs.Owned.{folds_in}
 use Rattle.sys_seats.specs.Seats.{all_of, gives_of, votes_of}
 
 -- there is room for what is voted for: for a commit of each prepared transaction, and for a copy of each link that is to be given

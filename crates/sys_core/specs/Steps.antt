@@ -23,7 +23,7 @@ use Rattle.meaning_system.specs.Writes.{writes}
 use Rattle.sys_core.specs.Seated.{shown_by}
 use Rattle.sys_core.specs.Standing.{IsOf}
 use Rattle.sys_core.specs.declared.engine.Engine.{Engine}
-use Rattle.sys_opening.specs.Owned.{journals_of}
+use Rattle.sys_owners.specs.Owned.{journals_of}
 
 -- A number that is not left to draw, as a record that cannot be written: it comes before the records of its step.
 abbrev pub undrawn : Option Full → List Write

@@ -15,7 +15,7 @@ use Rattle.meaning_system.specs.Writes.{prepared}
 use Rattle.sys_core.specs.Seated.{IsVote}
 use Rattle.sys_core.specs.Standing.{IsOf}
 use Rattle.sys_core.specs.declared.engine.Engine.{Engine}
-use Rattle.sys_opening.specs.Owned.{Owned, journals_of}
+use Rattle.sys_owners.specs.Owned.{Owned, journals_of}
 use Rattle.sys_seats.specs.Seats.{all_of, gives_of, votes_of}
 use Rattle.sys_seats.specs.declared.seat.Vote.{Vote}
 

@@ -13,7 +13,7 @@ ghost use Rattle.sys_core.specs.Archiving.{CanStore, awaited, awaited_in};
 ghost use Rattle.sys_core.specs.Standing.{IsOf};
 ghost use Rattle.sys_core.specs.Steps.{Steps};
 ghost use Rattle.sys_core.specs.Voting.{HaveMoreRoom};
-ghost use Rattle.sys_opening.specs.Owned.{journals_of};
+ghost use Rattle.sys_owners.specs.Owned.{journals_of};
 ghost use Rattle.sys_seats.specs.Seats.{all_of, gives_of};
 
 use crate::engine::Engine;

@@ -8,12 +8,12 @@ ghost use Rattle.meaning_areas.specs.Lists.{folds_on};
 ghost use Rattle.meaning_system.specs.State.{has_links, is_empty};
 ghost use Rattle.meaning_system.specs.Writes.{prepared, taken_by};
 ghost use Rattle.sys_core.specs.Restoring.{moving};
-ghost use Rattle.sys_opening.specs.Owned.{folds_in, journals_of};
+ghost use Rattle.sys_owners.specs.Owned.{folds_in, journals_of};
 
 use dl_areas::calls_follow_one_another;
 use dl_base::{Bench, Copied, LinkRow, List, Memory, StepFault};
 use dl_codec::Taken;
-use sys_opening::Owners;
+use sys_owners::Owners;
 
 // Writes the Prepared of a number, where a link is given or taken; those that are taken with RECOVERY YES are to be filled, or none.
 // It takes its memory before it writes.

@@ -12,7 +12,7 @@ ghost use Rattle.sys_core.specs.Between.{DecidesTo, IsBetween, IsDeciding};
 ghost use Rattle.sys_core.specs.Seated.{HasTxn, making_of, phase_at};
 ghost use Rattle.sys_core.specs.Standing.{IsOf};
 ghost use Rattle.sys_core.specs.Steps.{Shows, Steps, as_step};
-ghost use Rattle.sys_opening.specs.Owned.{journals_of};
+ghost use Rattle.sys_owners.specs.Owned.{journals_of};
 
 use crate::engine::Engine;
 use crate::versions::conflict;

@@ -2,7 +2,7 @@
 use dl_base::Settings;
 use fm_links::Claims;
 use std::alloc::Global;
-use sys_opening::Owners;
+use sys_owners::Owners;
 use sys_seats::Seats;
 
 /// What the steps of the machine work on: the owners of the five areas, the claims of transactions by their paths, what is kept of

@@ -14,7 +14,7 @@ ghost use Rattle.sys_core.specs.Between.{IsBetween, IsSettled};
 ghost use Rattle.sys_core.specs.Seated.{HasTxn, phase_at};
 ghost use Rattle.sys_core.specs.Standing.{IsOf};
 ghost use Rattle.sys_core.specs.Steps.{Shows, Steps, as_step};
-ghost use Rattle.sys_opening.specs.Owned.{journals_of};
+ghost use Rattle.sys_owners.specs.Owned.{journals_of};
 
 use crate::engine::Engine;
 use db_txn::Txn;
@@ -116,7 +116,7 @@ impl Engine {
             Some(pieces) => {
                 let left = self.owners.manager.left(pieces);
                 left.are_spelled();
-                sys_opening::finish(&mut self.owners, bench, left)
+                sys_owners::finish(&mut self.owners, bench, left)
             }
             None => Ok(()),
         }

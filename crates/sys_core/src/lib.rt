@@ -17,7 +17,6 @@ mod finish;
 mod guard;
 mod laws;
 mod numbered;
-mod opening;
 mod pending;
 mod prepare;
 mod refusing;

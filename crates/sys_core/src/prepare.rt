@@ -8,7 +8,7 @@ ghost use Rattle.meaning_system.specs.Writes.{writes};
 ghost use Rattle.sys_core.specs.Seated.{HasTxn};
 ghost use Rattle.sys_core.specs.Standing.{IsOf};
 ghost use Rattle.sys_core.specs.Steps.{Shows, Steps};
-ghost use Rattle.sys_opening.specs.Owned.{journals_of};
+ghost use Rattle.sys_owners.specs.Owned.{journals_of};
 
 use crate::engine::Engine;
 use db_txn::Txn;

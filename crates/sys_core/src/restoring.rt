@@ -17,7 +17,7 @@ ghost use Rattle.meaning_settling.specs.Settling as settling;
 ghost use Rattle.meaning_system.specs.Writes.{prepared, whole_finish};
 ghost use Rattle.sys_core.specs.Restoring.{ArePieces, ArePiecesSpelled, CanCommit, CanWrite, IsMadeFor, MaySettle, commit_part, moved_in, moving, restore_part};
 ghost use Rattle.sys_core.specs.Voting.{HaveMoreRoom};
-ghost use Rattle.sys_opening.specs.Owned.{folds_in, journals_of};
+ghost use Rattle.sys_owners.specs.Owned.{folds_in, journals_of};
 ghost use Rattle.sys_seats.specs.Seats.{all_of, gives_of, votes_of};
 
 use crate::branch::{moves_links, write_prepared};
@@ -32,7 +32,7 @@ use dl_codec::{RowsRecord, TableChange, put_rows_record};
 use fm_manager::{Manager, Pieces};
 use fm_pieces::pieces_as_they_are_made;
 use std::alloc::Global;
-use sys_opening::Owners;
+use sys_owners::Owners;
 use sys_seats::Seats;
 
 /// What is made for a restore before it is written: the cells that it loses, its commit, the links that this takes away and adds, whether
@@ -292,7 +292,7 @@ fn settle<B: Bench>(
     calls_follow_one_another::<B>();
     pieces_as_they_are_made();
     match pieces {
-        Some(pieces) => sys_opening::finish(owners, bench, pieces),
+        Some(pieces) => sys_owners::finish(owners, bench, pieces),
         None => Ok(()),
     }
 }

@@ -14,7 +14,7 @@ ghost use Rattle.meaning_system.specs.Writes.{when, writes};
 ghost use Rattle.sys_core.specs.Seated.{AreSeated, HasTxn};
 ghost use Rattle.sys_core.specs.Standing.{IsOf};
 ghost use Rattle.sys_core.specs.Steps.{Shows, Steps, as_step};
-ghost use Rattle.sys_opening.specs.Owned.{folds_in, journals_of};
+ghost use Rattle.sys_owners.specs.Owned.{folds_in, journals_of};
 
 use crate::engine::Engine;
 use db_txn::Txn;

@@ -11,7 +11,7 @@ ghost use Rattle.meaning_system.specs.Writes.{prepared};
 ghost use Rattle.sys_core.specs.Seated.{IsSeatOf, making_of};
 ghost use Rattle.sys_core.specs.Standing.{IsOf};
 ghost use Rattle.sys_core.specs.Voting.{CanEnter, CanVote, HaveMoreRoom, Votes};
-ghost use Rattle.sys_opening.specs.Owned.{journals_of};
+ghost use Rattle.sys_owners.specs.Owned.{journals_of};
 ghost use Rattle.sys_seats.specs.Seats.{all_of, gives_of, votes_of};
 
 use crate::branch::{moves_links, write_prepared};
@@ -23,7 +23,7 @@ use fm_links::claims_behind_steps_of_a_session;
 use fm_manager::{Manager, Pieces};
 use fm_pieces::pieces_as_they_are_made;
 use meaning_history::each_step_leads_on;
-use sys_opening::Owners;
+use sys_owners::Owners;
 use sys_seats::{Seat, SeatClaim, Seats, Stage, Vote, seats_count_together};
 
 impl Engine {

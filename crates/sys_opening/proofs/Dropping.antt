@@ -19,14 +19,14 @@ use Rattle.meaning_areas.specs.Stands.{is_open}
 use Rattle.meaning_system.specs.Writes.{open_drop, when}
 use Rattle.sys_opening.proofs.Halted.{halts-among}
 use Rattle.sys_opening.proofs.Halts.{halts-stop}
-use Rattle.sys_opening.proofs.InARow.{append-nil, folds-then, taken-first, writes-append}
 use Rattle.sys_opening.proofs.Spelling.{have-append, spelled-have}
-use Rattle.sys_opening.proofs.Taking.{taken-anywhere}
 use Rattle.sys_opening.proofs.Trying.{tries-all, tries-among}
 use Rattle.sys_opening.specs.Faults.{open_fault_of}
 use Rattle.sys_opening.specs.Halting.{Halts, HaveSpellings, Tries}
-use Rattle.sys_opening.specs.Owned.{Owned, folds_in, journals_of}
 use Rattle.sys_opening.specs.Resolving.{drop_writes}
+use Rattle.sys_owners.proofs.InARow.{append-nil, folds-then, taken-first, writes-append}
+use Rattle.sys_owners.proofs.Taking.{taken-anywhere}
+use Rattle.sys_owners.specs.Owned.{Owned, folds_in, journals_of}
 
 -- what is dropped among some entries is what is dropped among those that are in doubt
 drops-in-doubt : (f : Folds) (es : List (ℕ × Branch)) → flat_map (open_drop f) es ≡ flat_map (drop_writes f) (doubtful es)

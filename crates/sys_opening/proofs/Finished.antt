@@ -27,13 +27,14 @@ use Rattle.meaning_opening.proofs.Plain.{false_true, none_some, some_same, the_s
 use Rattle.meaning_opening.proofs.Present.{insert-drops}
 use Rattle.meaning_settling.specs.Settling.{Moved}
 use Rattle.meaning_system.specs.Writes.{open_drop, open_writes}
-use Rattle.sys_opening.proofs.InARow.{taken-first}
-use Rattle.sys_opening.proofs.Placing.{with_manager}
-use Rattle.sys_opening.proofs.Spelling.{finish-spelled, spelled-have}
-use Rattle.sys_opening.proofs.Taking.{can-again, finish-last, part-managed, taken-anywhere}
+use Rattle.sys_opening.proofs.Spelling.{spelled-have}
 use Rattle.sys_opening.specs.Halting.{HaveSpellings}
-use Rattle.sys_opening.specs.Owned.{Owned, folds_in, journals_of}
 use Rattle.sys_opening.specs.Resolving.{Settles}
+use Rattle.sys_owners.proofs.InARow.{taken-first}
+use Rattle.sys_owners.proofs.Placing.{with_manager}
+use Rattle.sys_owners.proofs.Spelling.{finish-spelled}
+use Rattle.sys_owners.proofs.Taking.{can-again, finish-last, part-managed, taken-anywhere}
+use Rattle.sys_owners.specs.Owned.{Owned, folds_in, journals_of}
 
 -- WHAT THE CRATES BELOW PROMISE
 pub record Laws : Type 0 where

@@ -8,10 +8,10 @@ use Rattle.dl_base.specs.declared.fault.AppendFault.TheVariants as appends
 use Rattle.fm_manager.specs.Managed.{as_writes}
 use Rattle.meaning_areas.specs.Lists.{Written}
 use Rattle.sys_opening.proofs.Halts.{halts-then}
-use Rattle.sys_opening.proofs.InARow.{writes-append}
 use Rattle.sys_opening.specs.Halting.{Halts}
 use Rattle.sys_opening.specs.declared.fault.OpenFault.{OpenFault}
 use Rattle.sys_opening.specs.declared.fault.OpenFault.TheVariants as faults
+use Rattle.sys_owners.proofs.InARow.{writes-append}
 
 -- want of memory before the first record
 pub halts-before : (js ks : Journals) (ws : List Write) (o n : Outside) → Does js ks [] None o n → Halts js ks ws (Some faults.Memory) o n

@@ -1,5 +1,5 @@
 -- Parts of an opening, one behind another, and what each of their ends leaves.
-use Rattle.std.proofs.Common.{◌≡◌, inl, inr, ⊎_elim, ◌≤◌, ◌++◌, ℕ, List, Option, Some, None, sym, ◌∙◌, ap, subst, arith}
+use Rattle.std.proofs.Common.{◌≡◌, inl, inr, ⊎_elim, ◌≤◌, ◌++◌, ℕ, List, Option, Some, None, ◌∙◌, ap, arith}
 use Rattle.std.proofs.lemmas.List.{append_assoc}
 use Rattle.dl_areas.proofs.Doing.{prefix-more}
 use Rattle.dl_areas.proofs.Fitting.{fitting-front}

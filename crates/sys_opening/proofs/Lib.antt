@@ -1,15 +1,11 @@
 pub mod Comparing
 pub mod Halts
-pub mod Placing
 pub mod Reading
 pub mod Records
 pub mod Refusing
-pub mod InARow
 pub mod Halted
 pub mod Spelling
 pub mod Trying
-pub mod Taking
-pub mod Ending
 pub mod Finished
 pub mod Settling
 pub mod Dropping

@@ -20,7 +20,7 @@ use Rattle.meaning_history.specs.Sound.{AreSound}
 use Rattle.meaning_opening.specs.Fronts.{opened_by}
 use Rattle.meaning_system.specs.Machine.{start}
 use Rattle.meaning_system.specs.Writes.{open_drop, open_settles, opening}
-use Rattle.sys_opening.specs.Owned.{AreFolded}
+use Rattle.sys_owners.specs.Owned.{AreFolded}
 
 some_same : {X : Type 0} (x y : X) → Some x ≡ Some y → x ≡ y
 some_same x y e = cc

@@ -3,7 +3,7 @@ use Rattle.std.proofs.Common.{◌≡◌, ℕ, zero, suc, ◌+◌, ◌<◌, ◌==
 use Rattle.std.specs.FinMap as maps
 use Rattle.std.specs.List.{slice_get}
 use Rattle.std.specs.Option.{option_map, unwrap_or}
-use Rattle.compare_links.proofs.Walks.{left-at}
+use Rattle.compare_every.proofs.Lists.{left-at}
 use Rattle.db_store.specs.Log.{commit_numbered}
 use Rattle.dl_areas.specs.Lists.{Write}
 use Rattle.dl_areas.specs.Writing.{Does}
@@ -16,13 +16,13 @@ use Rattle.meaning_opening.proofs.Plain.{none_some, some_same, test-same}
 use Rattle.meaning_system.specs.Writes.{open_settles, open_writes}
 use Rattle.sys_opening.proofs.Finished.{settles-none}
 use Rattle.sys_opening.proofs.Halted.{halts-among}
-use Rattle.sys_opening.proofs.InARow.{append-nil, folds-then, writes-append}
 use Rattle.sys_opening.proofs.Spelling.{have-append}
 use Rattle.sys_opening.proofs.Trying.{tries-all, tries-among}
 use Rattle.sys_opening.specs.Halting.{Halts, HaveSpellings, Tries}
-use Rattle.sys_opening.specs.Owned.{Owned, folds_in, journals_of}
 use Rattle.sys_opening.specs.Resolving.{Settles, commit_writes}
 use Rattle.sys_opening.specs.declared.fault.OpenFault.{OpenFault}
+use Rattle.sys_owners.proofs.InARow.{append-nil, folds-then, writes-append}
+use Rattle.sys_owners.specs.Owned.{Owned, folds_in, journals_of}
 
 -- one part behind another
 settles-then : (f g h : Folds) (xs ys : List Written) → Settles f g xs → Settles g h ys → Settles f h (xs ++ ys)

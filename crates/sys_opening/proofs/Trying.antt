@@ -9,11 +9,11 @@ use Rattle.dl_base.specs.declared.fault.AppendFault.{AppendFault}
 use Rattle.fm_manager.specs.Managed.{as_writes}
 use Rattle.meaning_areas.specs.Lists.{Written}
 use Rattle.meaning_opening.proofs.Plain.{none_some}
-use Rattle.sys_opening.proofs.InARow.{append-nil, writes-append}
 use Rattle.sys_opening.proofs.Spelling.{Front, fitting-front, have-append}
 use Rattle.sys_opening.specs.Begun.{IsOfOpening, LeavesSpelled}
 use Rattle.sys_opening.specs.Halting.{HaveSpellings, Tries}
 use Rattle.sys_opening.specs.declared.fault.OpenFault.{OpenFault}
+use Rattle.sys_owners.proofs.InARow.{append-nil, writes-append}
 
 module _ (js ks : Journals) (o n : Outside) where
   -- all of them

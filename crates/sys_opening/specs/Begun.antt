@@ -12,7 +12,7 @@ use Rattle.meaning_history.specs.Reached.{first_of}
 use Rattle.meaning_history.specs.Sound.{AreSound}
 use Rattle.meaning_system.specs.Machine.{start}
 use Rattle.meaning_system.specs.Writes.{opening}
-use Rattle.sys_opening.specs.Owned.{AreFolded, AreTold, Owned, folds_in, journals_of}
+use Rattle.sys_owners.specs.Owned.{AreFolded, AreTold, Owned, folds_in, journals_of}
 
 -- THE LISTS THAT WERE READ, what they stand for, and that they stand for it together
 pub record AreFound (lists : Lists) (f : Folds) (o : Outside) : Type 0 where

@@ -1,5 +1,4 @@
 pub mod Begun
 pub mod Faults
 pub mod Halting
-pub mod Owned
 pub mod Resolving

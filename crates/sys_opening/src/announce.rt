@@ -8,11 +8,11 @@ ghost use Rattle.dl_codec.specs.declared.rows.RowsRecord.TheVariants as rows_rec
 ghost use Rattle.fm_manager.specs.Managed.{as_writes};
 ghost use Rattle.meaning_areas.specs.Lists.{in_links, in_rows};
 ghost use Rattle.meaning_areas.specs.Moving.{with_links_opening, with_rows_opening};
-ghost use Rattle.sys_opening.specs.Owned.{folds_in, journals_of};
+ghost use Rattle.sys_owners.specs.Owned.{folds_in, journals_of};
 
-use crate::owners::Owners;
 use dl_areas::calls_follow_one_another;
 use dl_base::{AppendFault, Bench};
+use sys_owners::Owners;
 
 /// Writes the next opening of Rows, and then that of Links. It takes no memory.
 pub fn announce<B: Bench>(owners: &mut Owners, bench: &mut B) -> Result<(), AppendFault>

@@ -15,13 +15,12 @@ ghost use Rattle.meaning_history.specs.Reached.{HasPast};
 ghost use Rattle.meaning_system.specs.Writes.{opening};
 ghost use Rattle.sys_opening.specs.Begun.{AreFound, HasBegun, IsOfOpening};
 ghost use Rattle.sys_opening.specs.Halting.{Halts, Tries};
-ghost use Rattle.sys_opening.specs.Owned.{AreTold, folds_in, journals_of};
+ghost use Rattle.sys_owners.specs.Owned.{AreTold, folds_in, journals_of};
 
 use crate::announce::announce;
 use crate::compare::compare;
 use crate::fault::OpenFault;
 use crate::opening::open_all;
-use crate::owners::Owners;
 use crate::resolving::resolve;
 use dl_areas::{
     an_opening_writes_its_records, calls_follow_one_another, open_areas_have_their_lists,
@@ -33,6 +32,7 @@ use meaning_opening::{
     an_opening_goes_by_its_present_lists, an_opening_leads_to_the_start, an_opening_may_be_stopped,
 };
 use std::alloc::Global;
+use sys_owners::Owners;
 
 /// Opens the five areas, compares them, writes the next openings of Rows and Links, and settles or drops the branches in doubt. The
 /// limit is the most bytes that the records and the closing gate of one area may be. It costs the records of all areas, what

@@ -3,17 +3,18 @@ ghost use Rattle.std.specs.Prelude.{◌≡◌, None, Ok, Some};
 ghost use Rattle.dl_areas.specs.Lists.{Lists};
 ghost use Rattle.dl_base.specs.declared.area.Area.{Area as Areas_};
 ghost use Rattle.dl_base.specs.declared.area.Area.TheVariants as areas;
-ghost use Rattle.compare_links.specs.Every.{IsEvery};
+ghost use Rattle.compare_every.specs.Every.{IsEvery};
 ghost use Rattle.meaning_areas.specs.Areas.{ComparesAt, IsUnlike};
 ghost use Rattle.meaning_areas.specs.Stands.{IsStand, stored_of};
-ghost use Rattle.sys_opening.specs.Owned.{AreFolded, folds_in};
+ghost use Rattle.sys_owners.specs.Owned.{AreFolded, folds_in};
 
-use crate::owners::Owners;
+use compare_every::EveryLink;
 use compare_files::{archive_compares, backups_compare, files_compare};
-use compare_links::{EveryLink, links_compare};
+use compare_links::links_compare;
 use dl_base::{Area, Memory};
 use meaning_areas::areas_stand_where_all_compares;
 use std::alloc::Global;
+use sys_owners::Owners;
 
 /// The first area whose list does not fit those before it; none where all fit, and so stand for something together. The cost is that
 /// of the comparisons: after each commit a look at the tables with links that it changed, n log n in what all branches give and take,

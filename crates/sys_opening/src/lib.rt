@@ -6,10 +6,7 @@ mod beginning;
 mod compare;
 mod fault;
 mod opening;
-mod owners;
 mod resolving;
 
 pub use beginning::begin;
 pub use fault::OpenFault;
-pub use owners::Owners;
-pub use resolving::finish;

@@ -6,10 +6,9 @@ ghost use Rattle.dl_base.specs.Outside.{FaultCounted};
 ghost use Rattle.dl_base.specs.declared.area.Area.{Area as Areas_};
 ghost use Rattle.dl_base.specs.declared.fault.Full.{Full as Fulls};
 ghost use Rattle.meaning_areas.specs.Areas.{Areas, folds_of};
-ghost use Rattle.sys_opening.specs.Owned.{AreFolded, AreTold, folds_in, journals_of};
+ghost use Rattle.sys_owners.specs.Owned.{AreFolded, AreTold, folds_in, journals_of};
 
 use crate::fault::{OpenFault, open_fault};
-use crate::owners::Owners;
 use bk_backup::Backups;
 use db_store::Store;
 use dl_areas::{areas_are_opened_in_order, open_areas_have_their_lists};
@@ -19,6 +18,7 @@ use fm_branch::Branches;
 use fm_manager::Manager;
 use fs_files::Files;
 use std::alloc::Global;
+use sys_owners::Owners;
 
 /// Opens the five areas, in order. The limit is the most bytes that the records and the closing gate of one may be. `NotAStore` has
 /// the first area that is no list, or whose fold refuses a record, and the place of that one's gate.

@@ -27,7 +27,7 @@ use Rattle.sys_core.specs.Standing.{IsOf}
 use Rattle.sys_core.specs.Steps.{Steps, draws, records_of}
 use Rattle.sys_core.specs.declared.engine.Engine.{Engine}
 use Rattle.sys_opening.specs.Begun.{HasBegun}
-use Rattle.sys_opening.specs.Owned.{Owned, folds_in, journals_of}
+use Rattle.sys_owners.specs.Owned.{Owned, folds_in, journals_of}
 use Rattle.sys_recovery.specs.Left.{IsAtomic, areas_of, has_commit}
 use Rattle.sys_run.proofs.Images.{Drawn, Laws, all-written, drawn, draws-is, exhausted, exhausted-fits, leaves-some, nil, no-cons, no-draws, no-prefix, none-fitting, part-of, partly, stays, strict, wholly}
 use Rattle.sys_run.proofs.Stepping.{Leads, Owes}

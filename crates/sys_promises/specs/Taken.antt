@@ -18,7 +18,7 @@ use Rattle.meaning_system.specs.Writes.{writes}
 use Rattle.sys_core.specs.Standing.{IsOf}
 use Rattle.sys_core.specs.Steps.{Steps, draws}
 use Rattle.sys_core.specs.declared.engine.Engine.{Engine}
-use Rattle.sys_opening.specs.Owned.{AreFolded, journals_of}
+use Rattle.sys_owners.specs.Owned.{AreFolded, journals_of}
 use Rattle.sys_recovery.specs.Left.{IsAtomic, areas_of}
 
 -- AN ENGINE STANDS OVER ITS AREAS in a state: it is in that state, the areas are ready and have these lists, and the lists stand for what

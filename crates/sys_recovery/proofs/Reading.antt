@@ -33,9 +33,9 @@ use Rattle.meaning_areas.specs.Stands.{IsStand, Stored}
 use Rattle.meaning_files.specs.Files.{Files}
 use Rattle.meaning_opening.proofs.Plain.{false_true, none_some, some_same}
 use Rattle.meaning_settling.specs.Settling.{Copies}
-use Rattle.sys_opening.proofs.InARow.{some-first}
-use Rattle.sys_opening.proofs.Reading.{all-read, read-ok}
-use Rattle.sys_opening.specs.Owned.{AreFolded}
+use Rattle.sys_owners.proofs.Reading.{all-read, read-ok}
+use Rattle.sys_owners.proofs.InARow.{some-first}
+use Rattle.sys_owners.specs.Owned.{AreFolded}
 use Rattle.sys_recovery.specs.Left.{areas_by, areas_of}
 
 -- WHAT THE LAYOUTS PROMISE

@@ -1,15 +1,14 @@
 -- What a crash leaves, and what that recovers to.
 use Rattle.std.specs.Prelude.{ℕ, Bool, true, false, if◌then◌else◌, List}
 use Rattle.std.specs.List.{list_any}
-use Rattle.dl_base.specs.Outside.{Outside, CrashState}
+use Rattle.dl_base.specs.Outside.{CrashState}
 use Rattle.dl_base.specs.declared.area.Area.{Area}
 use Rattle.dl_base.specs.declared.area.Area.TheVariants as areas
 use Rattle.dl_base.specs.declared.step.Step.{Step}
 use Rattle.dl_base.specs.declared.step.Step.TheVariants as steps
 use Rattle.dl_codec.specs.declared.rows.RowsRecord.TheVariants as rows_records
-use Rattle.meaning_areas.specs.Areas.{Areas, AreasStand}
+use Rattle.meaning_areas.specs.Areas.{Areas}
 use Rattle.meaning_areas.specs.Lists.{Written, in_rows}
-use Rattle.meaning_areas.specs.Stands.{Stored}
 use Rattle.meaning_system.specs.Machine.{step}
 use Rattle.meaning_system.specs.State.{State}
 
@@ -19,10 +18,6 @@ areas_by q = record { rows = q areas.Rows; links = q areas.Links; files = q area
 
 abbrev pub areas_of : CrashState → Areas
 areas_of p = areas_by p.areas
-
--- whatever a crash leaves of the five areas stands for something
-abbrev pub EveryImageStands : Outside → Type 0
-EveryImageStands o = (q : Area → List ℕ) → ((a : Area) → o.image a (q a)) → (x : Stored) × AreasStand (areas_by q) x
 
 -- a step that is done with its commit, or else with its last record: each but Resolve, which settles many transactions
 abbrev pub IsAtomic : Step → Type 0

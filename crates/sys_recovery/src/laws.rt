@@ -12,20 +12,17 @@ ghost use Rattle.meaning_areas.specs.Stands.{IsStand, Stored};
 ghost use Rattle.meaning_history.specs.Sound.{AreSound};
 ghost use Rattle.meaning_system.specs.Machine.{step};
 ghost use Rattle.meaning_system.specs.State.{State, stored};
-ghost use Rattle.meaning_system.specs.Writes.{opening, writes};
-ghost use Rattle.sys_opening.specs.Begun.{AreFound, IsOfOpening};
-ghost use Rattle.sys_opening.specs.Owned.{AreFolded};
-ghost use Rattle.sys_recovery.specs.Left.{EveryImageStands, IsAtomic, areas_of, has_commit, left_by};
+ghost use Rattle.meaning_system.specs.Writes.{writes};
+ghost use Rattle.sys_owners.specs.Owned.{AreFolded};
+ghost use Rattle.sys_recovery.specs.Left.{IsAtomic, areas_of, has_commit, left_by};
 
-use dl_areas::an_opening_finds_the_lists_of_its_begin;
-use dl_base::Bench;
 use dl_codec::{
     archive_records_have_one_spelling, backup_records_have_one_spelling, layouts_are_sound,
     links_records_have_one_spelling, rows_records_have_one_spelling,
 };
 use meaning_areas::lists_stand_for_their_core;
-use meaning_history::{each_step_leads_on, what_lists_stand_for_has_a_past};
-use meaning_opening::{a_finish_goes_on, an_opening_leads_to_the_start};
+use meaning_history::each_step_leads_on;
+use meaning_opening::a_finish_goes_on;
 use meaning_restore::restores_go_on_with_the_history;
 use meaning_system::{a_state_and_its_core_have_one_stored_part, steps_keep_tables_fitting};
 
@@ -59,15 +56,4 @@ pub fn stopped_steps_stand()
     restores_go_on_with_the_history();
     a_finish_goes_on();
     steps_keep_tables_fitting();
-}
-
-/// AN OPENING THAT IS STOPPED. At each moment of an opening over areas whose images all stand for something, what a crash leaves stands
-/// for something: so the next opening finds it.
-pub fn a_stopped_opening_stands<B: Bench>()
-    ensures { (lists : Lists) (f : Folds) (o : B) (p : CrashState) → AreFound lists f (B.outside o) → EveryImageStands (B.outside o) → IsOfOpening lists (opening f) (B.outside o) p → (x : Stored) × AreasStand (areas_of p) x }
-{
-    an_opening_finds_the_lists_of_its_begin::<B>();
-    an_opening_leads_to_the_start();
-    what_lists_stand_for_has_a_past();
-    what_is_written_is_read();
 }

@@ -14,7 +14,7 @@ use Rattle.meaning_history.specs.Reached.{HasPast}
 use Rattle.meaning_opening.specs.Fronts.{opened_by, without_openings}
 use Rattle.meaning_system.specs.Writes.{opening}
 use Rattle.sys_opening.specs.Begun.{AreFound, IsOfOpening, LeavesSpelled}
-use Rattle.sys_opening.specs.Owned.{AreFolded}
+use Rattle.sys_owners.specs.Owned.{AreFolded}
 use Rattle.sys_recovery.proofs.Reading.{same-lists-stand}
 use Rattle.sys_recovery.specs.Left.{areas_by, areas_of}
 use Rattle.sys_reopening.proofs.Finding.{found-are-told, found-stand, found_bytes}

@@ -15,9 +15,9 @@ use Rattle.meaning_areas.specs.Stands.{IsStand, Stored, stored_of}
 use Rattle.meaning_files.specs.Files.{Files}
 use Rattle.meaning_opening.proofs.Plain.{some_same}
 use Rattle.meaning_settling.specs.Settling.{Copies}
-use Rattle.sys_opening.proofs.Reading.{all-read, read-ok}
+use Rattle.sys_owners.proofs.Reading.{all-read, read-ok}
 use Rattle.sys_opening.specs.Begun.{AreFound}
-use Rattle.sys_opening.specs.Owned.{AreFolded, AreTold}
+use Rattle.sys_owners.specs.Owned.{AreFolded, AreTold}
 use Rattle.sys_recovery.specs.Left.{areas_by, areas_of}
 use Rattle.sys_reopening.specs.Again.{ReadsAs}
 

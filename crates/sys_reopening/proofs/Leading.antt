@@ -26,10 +26,10 @@ use Rattle.meaning_areas.specs.Finishing.{batch_changes, batch_of, committed_rec
 use Rattle.meaning_areas.specs.Lists.{Folds, Written, folds_on, in_links}
 use Rattle.meaning_opening.proofs.Plain.{the_some}
 use Rattle.meaning_settling.specs.Settling.{Kept, Moved}
-use Rattle.sys_opening.proofs.InARow.{taken-first}
 use Rattle.sys_opening.proofs.Spelling.{all-spelled, fitting-front, spelled-have}
 use Rattle.sys_opening.specs.Halting.{HaveSpellings}
-use Rattle.sys_opening.specs.Owned.{AreFolded}
+use Rattle.sys_owners.proofs.InARow.{taken-first}
+use Rattle.sys_owners.specs.Owned.{AreFolded}
 use Rattle.sys_reopening.proofs.Finding.{left-told}
 use Rattle.sys_reopening.specs.Managing.{IsFront, LeadsOn, StandsOver}
 

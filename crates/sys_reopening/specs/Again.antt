@@ -11,6 +11,10 @@ use Rattle.sys_recovery.specs.Left.{areas_by}
 abbrev pub ReadsAs : CrashState → Outside → Type 0
 ReadsAs p o = (a : Area) → o.reads a ≡ Some (p.areas a)
 
+-- whatever a crash leaves of the five areas stands for something
+abbrev pub EveryImageStands : Outside → Type 0
+EveryImageStands o = (q : Area → List ℕ) → ((a : Area) → o.image a (q a)) → (x : Stored) × AreasStand (areas_by q) x
+
 -- THE AREAS STAND FOR THIS, but for the numbers of openings
 pub record StandAlike (x : Areas) (s : Stored) : Type 0 where
   pub part : Stored

@@ -7,7 +7,7 @@ use Rattle.meaning_areas.specs.Areas.{folds_of}
 use Rattle.meaning_areas.specs.Commits.{Commits}
 use Rattle.meaning_areas.specs.Copies.{Backup}
 use Rattle.meaning_areas.specs.Lists.{Folds, Written, folds_on}
-use Rattle.sys_opening.specs.Owned.{AreFolded}
+use Rattle.sys_owners.specs.Owned.{AreFolded}
 use Rattle.sys_recovery.specs.Left.{areas_of}
 
 -- THE MANAGER STANDS OVER THESE LISTS, beside these commits and backups: they stand for what it has in memory, its journals are among the

@@ -29,9 +29,9 @@ ghost use Rattle.meaning_system.specs.State.{State, stored};
 ghost use Rattle.meaning_system.specs.Writes.{opening};
 ghost use Rattle.sys_opening.specs.Begun.{AreFound, HasBegun, IsOfOpening, LeavesSpelled};
 ghost use Rattle.sys_opening.specs.Halting.{HaveSpellings};
-ghost use Rattle.sys_opening.specs.Owned.{AreFolded, AreTold, Owned, folds_in};
-ghost use Rattle.sys_recovery.specs.Left.{EveryImageStands, areas_of};
-ghost use Rattle.sys_reopening.specs.Again.{EveryImageStandsAlike, ReadsAs, StandAlike};
+ghost use Rattle.sys_owners.specs.Owned.{AreFolded, AreTold, Owned, folds_in};
+ghost use Rattle.sys_recovery.specs.Left.{areas_of};
+ghost use Rattle.sys_reopening.specs.Again.{EveryImageStands, EveryImageStandsAlike, ReadsAs, StandAlike};
 ghost use Rattle.sys_reopening.specs.Managing.{IsFront, LeadsOn, StandsOver};
 
 use dl_areas::an_opening_finds_the_lists_of_its_begin;
@@ -40,6 +40,17 @@ use meaning_areas::areas_stand_where_all_compares;
 use meaning_history::what_lists_stand_for_has_a_past;
 use meaning_opening::{an_opening_leads_to_the_start, an_opening_may_be_stopped};
 use sys_recovery::what_is_written_is_read;
+
+/// AN OPENING THAT IS STOPPED. At each moment of an opening over areas whose images all stand for something, what a crash leaves stands
+/// for something: so the next opening finds it.
+pub fn a_stopped_opening_stands<B: Bench>()
+    ensures { (lists : Lists) (f : Folds) (o : B) (p : CrashState) → AreFound lists f (B.outside o) → EveryImageStands (B.outside o) → IsOfOpening lists (opening f) (B.outside o) p → (x : Stored) × AreasStand (areas_of p) x }
+{
+    an_opening_finds_the_lists_of_its_begin::<B>();
+    an_opening_leads_to_the_start();
+    what_lists_stand_for_has_a_past();
+    what_is_written_is_read();
+}
 
 /// A STOPPED OPENING KEEPS WHAT STOOD. What it leaves with some of its records stands for the same as before it, but for the numbers of
 /// openings: no commit, file, copy or backup is lost or added. So does what it leaves at any moment, where all that a crash might have

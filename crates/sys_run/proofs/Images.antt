@@ -24,7 +24,7 @@ use Rattle.meaning_system.specs.Recovering.{Recovers}
 use Rattle.meaning_system.specs.State.{State, Txn, stored, txn_of}
 use Rattle.meaning_system.specs.Writes.{writes}
 use Rattle.sys_core.specs.Steps.{draws, draws_by, draws_for, records_of, undrawn}
-use Rattle.sys_opening.specs.Owned.{AreFolded}
+use Rattle.sys_owners.specs.Owned.{AreFolded}
 use Rattle.sys_recovery.specs.Left.{IsAtomic, areas_of, left_by}
 use Rattle.sys_run.specs.Turning.{LeavesSome}
 

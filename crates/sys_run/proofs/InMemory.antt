@@ -20,7 +20,7 @@ use Rattle.meaning_system.specs.State.{State}
 use Rattle.meaning_system.specs.Writes.{writes}
 use Rattle.sys_core.specs.Steps.{Steps, StepsInMemory, records_of, undrawn}
 use Rattle.sys_core.specs.declared.engine.Engine.{Engine}
-use Rattle.sys_opening.specs.Owned.{journals_of}
+use Rattle.sys_owners.specs.Owned.{journals_of}
 
 pub in-memory : (first : ℕ) (x : Step) (s : State) (w v : Engine) (result : Result Answer StepFault) (o : Outside) → StepsInMemory first x s w v result → Steps first x s w v result o o
 in-memory first x s w v result o m = record { answers = m.answers; memory = m.memory; ends = by result m.fits m.full m.no_device }

@@ -24,7 +24,7 @@ use Rattle.meaning_system.specs.Writes.{writes}
 use Rattle.run_lines.specs.Reading.{Reads}
 use Rattle.sys_core.specs.Steps.{records_of}
 use Rattle.sys_core.specs.declared.engine.Engine.{Engine}
-use Rattle.sys_opening.specs.Owned.{journals_of}
+use Rattle.sys_owners.specs.Owned.{journals_of}
 use Rattle.sys_recovery.specs.Left.{areas_of, has_commit}
 use Rattle.sys_run.proofs.Images.{assoc, nil, none-full}
 use Rattle.sys_run.proofs.Named.{Names, line-named, names-read, no-extra}

@@ -13,7 +13,7 @@ use Rattle.meaning_script.specs.Expansion.{Then, does, given, answered, silent}
 use Rattle.meaning_script.specs.declared.kind.Line.{Line}
 use Rattle.meaning_system.specs.Machine.{step}
 use Rattle.sys_core.specs.declared.engine.Engine.{Engine}
-use Rattle.sys_opening.specs.Owned.{folds_in, journals_of}
+use Rattle.sys_owners.specs.Owned.{folds_in, journals_of}
 use Rattle.sys_run.proofs.Images.{none-full}
 use Rattle.sys_run.proofs.Lines.{Follow, later-full, later-grown, later-past, later-stands, moment-later}
 use Rattle.sys_run.proofs.Pacing.{Pace, StoresEach, pace-bound, pace-next, pace-sees}

@@ -29,7 +29,7 @@ use Rattle.meaning_system.specs.State.{State}
 use Rattle.meaning_system.specs.Writes.{writes}
 use Rattle.sys_core.specs.Steps.{Steps, draws, records_of}
 use Rattle.sys_core.specs.declared.engine.Engine.{Engine}
-use Rattle.sys_opening.specs.Owned.{Owned, journals_of}
+use Rattle.sys_owners.specs.Owned.{Owned, journals_of}
 use Rattle.sys_recovery.specs.Left.{areas_of, has_commit, left_by}
 use Rattle.sys_run.specs.Running.{AreOf, HasGrown, IsFullIn, IsInRun, Stands, StandsAfter, resting}
 use Rattle.sys_run.specs.Sessions.{AreShown, IsStepOf}

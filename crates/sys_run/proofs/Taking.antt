@@ -21,7 +21,7 @@ use Rattle.meaning_system.specs.Machine.{step}
 use Rattle.meaning_system.specs.Writes.{writes}
 use Rattle.sys_core.specs.Steps.{Steps, draws}
 use Rattle.sys_core.specs.declared.engine.Engine.{Engine}
-use Rattle.sys_opening.specs.Owned.{journals_of}
+use Rattle.sys_owners.specs.Owned.{journals_of}
 use Rattle.sys_run.proofs.Fine.{Fine, fine-line}
 use Rattle.sys_run.proofs.Images.{Laws, assoc, stays}
 use Rattle.sys_run.proofs.Lines.{told-grown, told-past, told-stands}

@@ -16,7 +16,7 @@ use Rattle.meaning_system.specs.Writes.{writes}
 use Rattle.sys_core.specs.Standing.{IsOf}
 use Rattle.sys_core.specs.Steps.{records_of}
 use Rattle.sys_core.specs.declared.engine.Engine.{Engine}
-use Rattle.sys_opening.specs.Owned.{AreFolded, journals_of}
+use Rattle.sys_owners.specs.Owned.{AreFolded, journals_of}
 use Rattle.sys_recovery.specs.Left.{areas_of, has_commit}
 use Rattle.sys_run.specs.Sessions.{AreShown}
 use Rattle.sys_run.specs.declared.sessions.Sessions.{Sessions}

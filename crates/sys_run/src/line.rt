@@ -4,7 +4,7 @@ ghost use Rattle.dl_areas.specs.Lists.{Lists};
 ghost use Rattle.dl_base.specs.Outside.{AtEveryMoment, FaultCounted};
 ghost use Rattle.dl_base.specs.declared.fault.Full.{Full};
 ghost use Rattle.meaning_run.specs.Running.{Read, Run, met, pending_links, stores_copies};
-ghost use Rattle.sys_opening.specs.Owned.{journals_of};
+ghost use Rattle.sys_owners.specs.Owned.{journals_of};
 ghost use Rattle.meaning_script.specs.Expansion.{IsRead};
 ghost use Rattle.meaning_system.specs.State.{State};
 ghost use Rattle.sys_core.specs.Standing.{IsOf};

@@ -9,7 +9,7 @@ ghost use Rattle.meaning_system.specs.State.{State};
 ghost use Rattle.meaning_system.specs.Writes.{writes};
 ghost use Rattle.sys_core.specs.Standing.{IsOf};
 ghost use Rattle.sys_core.specs.Steps.{Steps, StepsInMemory, as_step, draws};
-ghost use Rattle.sys_opening.specs.Owned.{journals_of};
+ghost use Rattle.sys_owners.specs.Owned.{journals_of};
 ghost use Rattle.sys_run.specs.Sessions.{AreShown, IsSession, IsStepOf, has_txn};
 
 use db_txn::Txn;

@@ -11,7 +11,7 @@ ghost use Rattle.meaning_system.specs.State.{State, txn_of};
 ghost use Rattle.sys_core.specs.Seated.{HasTxn};
 ghost use Rattle.sys_core.specs.Standing.{IsOf};
 ghost use Rattle.sys_core.specs.declared.engine.Engine as working;
-ghost use Rattle.sys_opening.specs.Owned.{journals_of};
+ghost use Rattle.sys_owners.specs.Owned.{journals_of};
 ghost use Rattle.sys_run.specs.Running.{AreOf, HasGrown, IsFullIn, IsInRun, Stands, StandsAfter};
 ghost use Rattle.sys_run.specs.Sessions.{AreShown};
 ghost use Rattle.sys_run.specs.Turning.{Goes, IsBetween, IsInLine, Sees};

@@ -4,9 +4,9 @@ use Rattle.std.specs.Cmp.Lexicographic.{slice_cmp}
 use Rattle.std.specs.List.{slice_get}
 use Rattle.std.specs.Map.{lookup}
 use Rattle.std.specs.Ordering.{nat_cmp}
-use Rattle.compare_links.proofs.Deciding.{decides-no, decides-yes}
+use Rattle.compare_every.proofs.Deciding.{decides-no, decides-yes}
 use Rattle.compare_links.proofs.Owning.{all-apart, not-apart, owns-more, owns-none}
-use Rattle.compare_links.proofs.Walks.{got}
+use Rattle.compare_every.proofs.Lists.{got}
 use Rattle.compare_links.proofs.apart.are_apart.Goals as goal
 
 pub loop-tx-init : goal.loop-tx-init

@@ -3,7 +3,7 @@ use Rattle.std.specs.BTreeMap.{get}
 use Rattle.std.specs.Cmp.Lexicographic.{slice_cmp}
 use Rattle.std.specs.Ordering.{nat_cmp}
 use Rattle.meaning_settling.specs.Keyed.{is_at}
-use Rattle.compare_links.proofs.Maps.{put-value}
+use Rattle.compare_every.proofs.Maps.{put-value}
 use Rattle.compare_links.proofs.apart.put_path.Goals as goal
 
 pub returns : goal.returns

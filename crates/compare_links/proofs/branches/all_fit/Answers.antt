@@ -1,8 +1,9 @@
 use Rattle.std.proofs.Common.{◌≡◌, ◌≤◌, ℕ, List, true, false, length, get_or, sym, ap, subst, ◌∙◌, rules}
 use Rattle.std.specs.FinMap as maps
 use Rattle.std.specs.List.{slice_get}
-use Rattle.compare_links.proofs.Deciding.{decides-no, decides-yes, refuted}
-use Rattle.compare_links.proofs.Walks.{below-more, below-none, each-branch, got}
+use Rattle.compare_every.proofs.Deciding.{decides-no, decides-yes, refuted}
+use Rattle.compare_every.proofs.Lists.{got}
+use Rattle.compare_links.proofs.Walks.{below-more, below-none, each-branch}
 use Rattle.compare_links.specs.Fitting.{BranchFits}
 use Rattle.compare_links.specs.Walking.{IfThere}
 use Rattle.compare_links.proofs.branches.all_fit.Goals as goal

@@ -11,7 +11,7 @@ use Rattle.meaning_areas.specs.Stands.{IsBranch}
 use Rattle.meaning_settling.specs.Settling.{numbered}
 use Rattle.meaning_tables.specs.Links.{gives, links, takes}
 use Rattle.compare_links.proofs.Going.{branch-same, step-decides}
-use Rattle.compare_links.specs.Every.{first_row}
+use Rattle.compare_every.specs.Every.{first_row}
 use Rattle.compare_links.specs.Fitting.{are_drawn, is_done_at}
 use Rattle.compare_links.specs.Moving.{all_agree, are_free, with_paths, without_paths}
 use Rattle.std.proofs.lemmas.Grind.{common_steps}

@@ -1,7 +1,7 @@
 use Rattle.std.proofs.Common.{◌≡◌, [], Option, Some, None, true, false, refl, subst, rules}
 use Rattle.dl_base.specs.declared.value.LinkRow.{LinkRow}
 use Rattle.meaning_settling.specs.Keyed.{Keyed}
-use Rattle.compare_links.proofs.Deciding.{refuted}
+use Rattle.compare_every.proofs.Deciding.{refuted}
 use Rattle.compare_links.proofs.Fits.{alike, last-paths, unlike}
 use Rattle.compare_links.proofs.Folded.{own-paths}
 use Rattle.compare_links.proofs.Steps.{rows-stepped}

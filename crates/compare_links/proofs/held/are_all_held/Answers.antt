@@ -3,9 +3,9 @@ use Rattle.std.specs.Cmp.Lexicographic.{slice_cmp}
 use Rattle.std.specs.FinMap as maps
 use Rattle.std.specs.Ordering.{nat_cmp}
 use Rattle.dl_base.specs.declared.value.LinkRow.{LinkRow}
-use Rattle.compare_links.proofs.Deciding.{decides-no}
+use Rattle.compare_every.proofs.Deciding.{decides-no}
 use Rattle.compare_links.proofs.Holding.{all-left, left-not, left-turn, none-left as nothing-left}
-use Rattle.compare_links.proofs.Walks.{left, none-left}
+use Rattle.compare_every.proofs.Lists.{left, none-left}
 use Rattle.compare_links.proofs.held.are_all_held.Goals as goal
 
 pub returns-then-not-take_out : goal.returns-then-not-take_out

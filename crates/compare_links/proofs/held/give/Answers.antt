@@ -1,5 +1,5 @@
 use Rattle.std.proofs.Common.{None}
-use Rattle.compare_links.proofs.Maps.{changed}
+use Rattle.compare_every.proofs.Maps.{changed}
 use Rattle.compare_links.proofs.held.give.Goals as goal
 
 pub returns : goal.returns

@@ -4,7 +4,7 @@ use Rattle.std.specs.FinMap as maps
 use Rattle.std.specs.Ordering.{nat_cmp}
 use Rattle.meaning_areas.specs.Stands.{txs_of}
 use Rattle.compare_links.proofs.Holding.{settled-turn}
-use Rattle.compare_links.proofs.Walks.{left-at}
+use Rattle.compare_every.proofs.Lists.{left-at}
 use Rattle.compare_links.specs.Fitting.{held_settled}
 use Rattle.compare_links.proofs.held.settle_all.Goals as goal
 

@@ -1,6 +1,6 @@
 use Rattle.std.proofs.Common.{◌≡◌, Some, ◌∙◌}
 use Rattle.std.specs.FinMap as maps
-use Rattle.compare_links.proofs.Maps.{changed}
+use Rattle.compare_every.proofs.Maps.{changed}
 use Rattle.compare_links.proofs.held.take.Goals as goal
 
 pub returns : goal.returns

@@ -4,7 +4,7 @@ use Rattle.std.specs.FinMap as maps
 use Rattle.std.specs.Ordering.{nat_cmp}
 use Rattle.fm_branch.proofs.Maps.{get-of}
 use Rattle.compare_links.proofs.Holding.{was-by, was-none}
-use Rattle.compare_links.proofs.Maps.{changed}
+use Rattle.compare_every.proofs.Maps.{changed}
 use Rattle.compare_links.proofs.held.take_out.Goals as goal
 
 pub returns-in-Some-clause-was : goal.returns-in-Some-clause-was

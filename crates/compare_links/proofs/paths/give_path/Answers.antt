@@ -1,7 +1,7 @@
 use Rattle.std.specs.BTreeSet.{contains}
 use Rattle.std.specs.Cmp.Lexicographic.{slice_cmp}
 use Rattle.std.specs.Ordering.{nat_cmp}
-use Rattle.compare_links.proofs.Maps.{out-key}
+use Rattle.compare_every.proofs.Maps.{out-key}
 use Rattle.compare_links.proofs.paths.give_path.Goals as goal
 
 pub returns : goal.returns

@@ -4,7 +4,7 @@ use Rattle.std.specs.Cmp.Lexicographic.{slice_cmp}
 use Rattle.std.specs.Ordering.{nat_cmp}
 use Rattle.dl_base.specs.declared.value.LinkRow.{LinkRow}
 use Rattle.compare_links.proofs.PathSets.{give-turn, given-all}
-use Rattle.compare_links.proofs.Walks.{none-left}
+use Rattle.compare_every.proofs.Lists.{none-left}
 use Rattle.compare_links.specs.Moving.{without_paths}
 use Rattle.compare_links.proofs.paths.give_paths.Goals as goal
 

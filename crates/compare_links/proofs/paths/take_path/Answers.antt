@@ -3,7 +3,7 @@ use Rattle.std.specs.BTreeSet.{contains}
 use Rattle.std.specs.Cmp.Lexicographic.{slice_cmp}
 use Rattle.std.specs.Ordering.{nat_cmp}
 use Rattle.meaning_settling.specs.Keyed.{is_at}
-use Rattle.compare_links.proofs.Maps.{put-key}
+use Rattle.compare_every.proofs.Maps.{put-key}
 use Rattle.compare_links.proofs.paths.take_path.Goals as goal
 
 pub returns-clause-paths : goal.returns-clause-paths

@@ -1,6 +1,6 @@
 use Rattle.std.proofs.Common.{refl, ◌∙◌, arith}
 use Rattle.std.specs.Str.Lines.{lines}
-use Rattle.sys_opening.specs.Owned.{journals_of}
+use Rattle.sys_owners.specs.Owned.{journals_of}
 use Rattle.sys_run.proofs.Lines.{Follow}
 use Rattle.sys_run.proofs.Reached.{rose-later}
 use Rattle.datalinks.proofs.Passing.{empty-is, onward, passed-all, passed-first}

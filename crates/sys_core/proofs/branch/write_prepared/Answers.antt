@@ -10,8 +10,8 @@ use Rattle.sys_core.proofs.Entering.{on-err}
 use Rattle.sys_core.proofs.Spelled.{as-spelled}
 use Rattle.sys_core.proofs.Voted.{manager-ends}
 use Rattle.sys_core.specs.Restoring.{moving}
-use Rattle.sys_opening.proofs.Placing.{manager-open, on-ok, with_manager}
-use Rattle.sys_opening.specs.Owned.{Owned, folds_in, journals_of}
+use Rattle.sys_owners.proofs.Placing.{manager-open, on-ok, with_manager}
+use Rattle.sys_owners.specs.Owned.{Owned, folds_in, journals_of}
 use Rattle.sys_core.proofs.branch.write_prepared.Goals as goal
 
 -- there is no record

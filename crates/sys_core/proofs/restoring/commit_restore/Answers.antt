@@ -6,8 +6,8 @@ use Rattle.meaning_areas.specs.Stands.{kept_of}
 use Rattle.meaning_system.specs.Writes.{whole_finish}
 use Rattle.sys_core.proofs.PuttingBack.{commit-leads, may-settle}
 use Rattle.sys_core.specs.Restoring.{moved_in}
-use Rattle.sys_opening.proofs.Placing.{store-does, with_store}
-use Rattle.sys_opening.specs.Owned.{folds_in, journals_of}
+use Rattle.sys_owners.proofs.Placing.{store-does, with_store}
+use Rattle.sys_owners.specs.Owned.{folds_in, journals_of}
 use Rattle.std.proofs.lemmas.Grind.{common_steps}
 use Rattle.sys_core.proofs.restoring.commit_restore.Goals as goal
 

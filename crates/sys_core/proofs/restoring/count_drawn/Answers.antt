@@ -1,7 +1,7 @@
 use Rattle.std.proofs.Common.{◌+◌, ap}
 use Rattle.db_store.specs.Store.{Database, draw_full}
 use Rattle.sys_core.proofs.Beginning.{on-drawn}
-use Rattle.sys_opening.proofs.Placing.{with_store}
+use Rattle.sys_owners.proofs.Placing.{with_store}
 use Rattle.sys_core.proofs.restoring.count_drawn.Goals as goal
 
 pub returns : goal.returns

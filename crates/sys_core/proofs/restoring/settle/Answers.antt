@@ -7,8 +7,8 @@ use Rattle.fm_manager.specs.Managed.{as_writes}
 use Rattle.meaning_areas.specs.Lists.{folds_on}
 use Rattle.meaning_areas.specs.Stands.{kept_of}
 use Rattle.sys_core.proofs.PuttingBack.{copies-more, copies-within, may-none, may-some, no-finish, settle-doubt, settle-end, settle-fits, settle-records}
-use Rattle.sys_opening.proofs.Placing.{on-ok}
-use Rattle.sys_opening.specs.Owned.{folds_in, journals_of}
+use Rattle.sys_owners.proofs.Placing.{on-ok}
+use Rattle.sys_owners.specs.Owned.{folds_in, journals_of}
 use Rattle.sys_core.proofs.restoring.settle.Goals as goal
 
 pub finish-requires-clause-fits : goal.finish-requires-clause-fits

@@ -8,8 +8,8 @@ use Rattle.meaning_areas.specs.Lists.{folds_on}
 use Rattle.meaning_system.specs.Writes.{prepared}
 use Rattle.sys_core.proofs.PuttingBack.{all-lead-drawn, all-writes, at-number, can-commit, drawn-does, ends-stop, first-taken}
 use Rattle.sys_core.specs.Restoring.{commit_part, moved_in, restore_part}
-use Rattle.sys_opening.proofs.InARow.{writes-append}
-use Rattle.sys_opening.specs.Owned.{folds_in, journals_of}
+use Rattle.sys_owners.proofs.InARow.{writes-append}
+use Rattle.sys_owners.specs.Owned.{folds_in, journals_of}
 use Rattle.std.proofs.lemmas.Grind.{common_steps}
 use Rattle.sys_core.proofs.restoring.write_restore.Goals as goal
 

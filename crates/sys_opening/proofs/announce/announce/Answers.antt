@@ -1,4 +1,4 @@
-use Rattle.std.proofs.Common.{◌≡◌, ◌+◌, ◌∷◌, [], Some, None, ap, refl}
+use Rattle.std.proofs.Common.{◌+◌, ◌∷◌, [], Some, None, ap, refl}
 use Rattle.std.specs.Result.{result_err}
 use Rattle.db_store.specs.Store.{Database}
 use Rattle.dl_base.specs.declared.area.Area.TheVariants as areas
@@ -6,8 +6,8 @@ use Rattle.dl_codec.specs.declared.links.LinksRecord.TheVariants as links_record
 use Rattle.dl_codec.specs.declared.rows.RowsRecord.TheVariants as rows_records
 use Rattle.fm_manager.specs.Managed.{as_writes}
 use Rattle.meaning_areas.specs.Lists.{in_links, in_rows}
-use Rattle.sys_opening.proofs.Placing.{both-counted, manager-does, manager-open, on-any, on-ok, store-does, with_manager, with_store}
-use Rattle.sys_opening.specs.Owned.{journals_of}
+use Rattle.sys_owners.proofs.Placing.{both-counted, manager-does, manager-open, on-any, on-ok, store-does, with_manager, with_store}
+use Rattle.sys_owners.specs.Owned.{journals_of}
 use Rattle.sys_opening.proofs.announce.announce.Goals as goal
 
 pub announce-requires : goal.announce-requires

@@ -1,5 +1,5 @@
-use Rattle.std.proofs.Common.{◌≡◌, inl, inr, ◌+◌, ℕ, List, Ok, Err, Some, None, Option, refl, sym, ◌∙◌, ap, subst, arith, rules}
-use Rattle.dl_areas.specs.Lists.{Lists, Write}
+use Rattle.std.proofs.Common.{◌≡◌, inl, Ok, Err, Some, None, Option, refl, sym, ◌∙◌, ap, subst, arith, rules}
+use Rattle.dl_areas.specs.Lists.{Lists}
 use Rattle.dl_areas.specs.Opening.{IsInBegin, IsInOpening, journals_with}
 use Rattle.dl_areas.specs.Writing.{full_in}
 use Rattle.dl_base.proofs.Moments.{moments_more}
@@ -18,9 +18,9 @@ use Rattle.sys_opening.proofs.Spelling.{all-spelled}
 use Rattle.sys_opening.proofs.Trying.{tries-fronts, tries-whole}
 use Rattle.sys_opening.specs.Begun.{IsOfOpening}
 use Rattle.sys_opening.specs.Halting.{Halts}
-use Rattle.sys_opening.specs.Owned.{AreFolded, folds_in, journals_of}
 use Rattle.sys_opening.specs.declared.fault.OpenFault.{OpenFault}
 use Rattle.sys_opening.specs.declared.fault.OpenFault.TheVariants as faults
+use Rattle.sys_owners.specs.Owned.{AreFolded, folds_in, journals_of}
 use Rattle.sys_opening.proofs.beginning.begin.Goals as goal
 
 -- where the areas do not open

@@ -1,20 +1,19 @@
 use Rattle.std.proofs.Common.{◌≡◌, List, Some, refl, sym, ◌∙◌, ap, subst}
 use Rattle.std.specs.Result.{result_err}
-use Rattle.dl_areas.specs.Lists.{Write}
 use Rattle.fm_manager.specs.Managed.{as_writes}
 use Rattle.meaning_areas.specs.Lists.{Folds, Written}
 use Rattle.meaning_areas.specs.Stands.{IsStand, Stored, stored_of}
 use Rattle.meaning_history.specs.Reached.{HasPast}
 use Rattle.meaning_system.specs.Writes.{opening}
-use Rattle.sys_opening.proofs.Records.{behind, behind-counted, counted, counted-stand, counts, opening-leads}
+use Rattle.sys_opening.proofs.Records.{behind, behind-counted, counted-stand, counts, opening-leads}
 use Rattle.sys_opening.proofs.Halts.{halts-stop, halts-then}
-use Rattle.sys_opening.proofs.Placing.{on-any, on-ok}
 use Rattle.sys_opening.proofs.Spelling.{counts-have}
 use Rattle.sys_opening.proofs.Trying.{tries-all, tries-behind, tries-more}
 use Rattle.sys_opening.specs.Faults.{open_fault_of}
 use Rattle.sys_opening.specs.Halting.{Halts, Tries}
-use Rattle.sys_opening.specs.Owned.{folds_in, journals_of}
 use Rattle.sys_opening.specs.declared.fault.OpenFault.{OpenFault}
+use Rattle.sys_owners.proofs.Placing.{on-ok}
+use Rattle.sys_owners.specs.Owned.{folds_in, journals_of}
 use Rattle.sys_opening.proofs.beginning.write_all.Goals as goal
 
 pub resolve-requires-clause-ready : goal.resolve-requires-clause-ready

@@ -7,7 +7,7 @@ use Rattle.fm_branch.specs.Linked.{Linked}
 use Rattle.meaning_areas.specs.Areas.{IsUnlike}
 use Rattle.meaning_settling.specs.Keyed.{Keyed}
 use Rattle.sys_opening.proofs.Comparing.{unlike-links}
-use Rattle.sys_opening.specs.Owned.{folds_in}
+use Rattle.sys_owners.specs.Owned.{folds_in}
 use Rattle.sys_opening.proofs.compare.compare.Goals as goal
 
 pub links_compare-requires-clause-rows : goal.links_compare-requires-clause-rows

@@ -1,15 +1,13 @@
-use Rattle.std.proofs.Common.{◌≡◌, Ok, true, false, refl, sym, ◌∙◌, ap, subst, rules}
-use Rattle.std.specs.Bool.{Decides}
-use Rattle.compare_links.proofs.Deciding.{refuted}
+use Rattle.std.proofs.Common.{◌≡◌, true, false, refl, sym, ap, subst, rules}
+use Rattle.compare_every.proofs.Deciding.{refuted}
 use Rattle.dl_base.specs.declared.area.Area.{Area}
 use Rattle.dl_base.specs.declared.area.Area.TheVariants as areas
 use Rattle.fm_archive.specs.Stock.{Stock}
 use Rattle.fm_branch.specs.Linked.{Linked}
 use Rattle.fs_files.specs.Store.{Catalog}
-use Rattle.meaning_areas.specs.Areas.{ComparesAt, IsUnlike}
-use Rattle.meaning_areas.specs.Branches.{Branches}
+use Rattle.meaning_areas.specs.Areas.{IsUnlike}
 use Rattle.sys_opening.proofs.Comparing.{all-compare, unlike-archive, unlike-backups, unlike-files}
-use Rattle.sys_opening.specs.Owned.{folds_in}
+use Rattle.sys_owners.specs.Owned.{folds_in}
 use Rattle.sys_opening.proofs.compare.compare_rest.Goals as goal
 
 pub returns-then-not-branch-clause-unlike : goal.returns-then-not-branch-clause-unlike

@@ -1,18 +1,17 @@
 use Rattle.std.proofs.Common.{◌≡◌, Err, refl, sym, ◌∙◌, ap, subst, arith}
 use Rattle.dl_areas.specs.Lists.{Lists, by_area}
 use Rattle.dl_areas.specs.Opening.{AreOpened}
-use Rattle.dl_base.specs.declared.area.Area.{Area}
 use Rattle.dl_base.specs.declared.area.Area.TheVariants as areas
 use Rattle.dl_base.specs.declared.fault.BeginFault.{BeginFault}
 use Rattle.fm_manager.specs.Managed.{Managed}
-use Rattle.meaning_areas.specs.Areas.{backups_of, branches_of, copies_of, folds_of, rows_of}
+use Rattle.meaning_areas.specs.Areas.{branches_of, copies_of, rows_of}
 use Rattle.meaning_areas.specs.FilesArea.{files_of}
 use Rattle.sys_opening.proofs.Halts.{risen}
-use Rattle.sys_opening.proofs.Reading.{no-backups, no-copies, no-files, no-links, no-rows, read-behind}
+use Rattle.sys_owners.proofs.Reading.{no-backups, no-copies, no-files, no-links, no-rows, read-behind}
 use Rattle.sys_opening.proofs.Refusing.{by-device, fault-same, never-full, refused-at, refused-by}
 use Rattle.sys_opening.specs.Faults.{open_fault}
-use Rattle.sys_opening.specs.Owned.{AreFolded, Owned, folds_in, journals_of}
 use Rattle.sys_opening.specs.declared.fault.OpenFault.TheVariants as faults
+use Rattle.sys_owners.specs.Owned.{AreFolded, Owned, folds_in, journals_of}
 use Rattle.sys_opening.proofs.opening.open_all.Goals as goal
 
 pub returns-in-Err-clause-opens : goal.returns-in-Err-clause-opens

@@ -12,9 +12,9 @@ use Rattle.sys_opening.proofs.Halted.{halts-before}
 use Rattle.sys_opening.proofs.Trying.{tries-none}
 use Rattle.sys_opening.specs.Faults.{open_fault_of}
 use Rattle.sys_opening.specs.Halting.{Halts, Tries}
-use Rattle.sys_opening.specs.Owned.{folds_in, journals_of}
 use Rattle.sys_opening.specs.declared.fault.OpenFault.{OpenFault}
 use Rattle.sys_opening.specs.declared.fault.OpenFault.TheVariants as faults
+use Rattle.sys_owners.specs.Owned.{folds_in, journals_of}
 use Rattle.sys_opening.proofs.resolving.drop_all.Goals as goal
 
 pub loop-tx-init : goal.loop-tx-init

@@ -5,9 +5,9 @@ use Rattle.dl_codec.specs.declared.links.LinksRecord.TheVariants as links_record
 use Rattle.fm_manager.specs.Managed.{as_writes}
 use Rattle.meaning_areas.specs.Lists.{Written, folds_on, in_links}
 use Rattle.sys_opening.proofs.Dropping.{dropped-not, dropped-so, dropped-taken}
-use Rattle.sys_opening.proofs.Placing.{manager-does, manager-open, on-ok, with_manager}
 use Rattle.sys_opening.proofs.Spelling.{drop-spelled}
-use Rattle.sys_opening.specs.Owned.{Owned, folds_in, journals_of}
+use Rattle.sys_owners.proofs.Placing.{manager-does, manager-open, on-ok, with_manager}
+use Rattle.sys_owners.specs.Owned.{Owned, folds_in, journals_of}
 use Rattle.sys_opening.proofs.resolving.drop_one.Goals as goal
 
 pub returns-then-decided-clause-folds : goal.returns-then-decided-clause-folds

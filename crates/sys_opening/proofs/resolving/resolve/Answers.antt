@@ -6,12 +6,12 @@ use Rattle.fm_manager.specs.Managed.{as_writes}
 use Rattle.meaning_areas.specs.Lists.{Written, folds_on}
 use Rattle.meaning_system.specs.Writes.{open_drop, open_settles}
 use Rattle.sys_opening.proofs.Halted.{halts-before-others, halts-behind}
-use Rattle.sys_opening.proofs.InARow.{folds-then}
-use Rattle.sys_opening.proofs.Placing.{on-ok}
 use Rattle.sys_opening.proofs.Trying.{tries-behind, tries-more, tries-whole}
 use Rattle.sys_opening.specs.Halting.{Halts, Tries}
-use Rattle.sys_opening.specs.Owned.{folds_in, journals_of}
 use Rattle.sys_opening.specs.declared.fault.OpenFault.{OpenFault}
+use Rattle.sys_owners.proofs.InARow.{folds-then}
+use Rattle.sys_owners.proofs.Placing.{on-ok}
+use Rattle.sys_owners.specs.Owned.{folds_in, journals_of}
 use Rattle.sys_opening.proofs.resolving.resolve.Goals as goal
 
 pub drop_all-requires-clause-ready : goal.drop_all-requires-clause-ready

@@ -9,13 +9,13 @@ use Rattle.meaning_system.specs.Writes.{open_writes}
 use Rattle.sys_opening.proofs.Finished.{Laws, found-does, found-have, found-left, none-does, none-have, none-settles, roomier-journals}
 use Rattle.sys_opening.proofs.Halted.{halts-before}
 use Rattle.sys_opening.proofs.Halts.{halts-stop}
-use Rattle.sys_opening.proofs.Placing.{with_manager}
 use Rattle.sys_opening.proofs.Trying.{tries-all, tries-none}
 use Rattle.sys_opening.specs.Faults.{open_fault_of}
 use Rattle.sys_opening.specs.Halting.{Halts, Tries}
-use Rattle.sys_opening.specs.Owned.{Owned, folds_in, journals_of}
 use Rattle.sys_opening.specs.declared.fault.OpenFault.{OpenFault}
 use Rattle.sys_opening.specs.declared.fault.OpenFault.TheVariants as faults
+use Rattle.sys_owners.proofs.Placing.{with_manager}
+use Rattle.sys_owners.specs.Owned.{Owned, folds_in, journals_of}
 use Rattle.sys_opening.proofs.resolving.settle.Goals as goal
 
 -- want of memory, before a record

@@ -1,6 +1,6 @@
 use Rattle.std.proofs.Common.{◌≡◌, ◌+◌, ◌<◌, ◌≤◌, ℕ, List, length, drop, None, Some, Err, Result, refl, sym, subst, rules}
 use Rattle.std.specs.Result.{result_err}
-use Rattle.compare_links.proofs.Walks.{none-left}
+use Rattle.compare_every.proofs.Lists.{none-left}
 use Rattle.db_store.specs.Log.{commit_numbered}
 use Rattle.dl_areas.specs.Writing.{Does}
 use Rattle.fm_manager.specs.Managed.{as_writes}
@@ -9,9 +9,9 @@ use Rattle.meaning_system.specs.Writes.{open_settles}
 use Rattle.sys_opening.proofs.Settling.{settling-does, settling-first, settling-halts, settling-more, settling-settles, settling-tries, settling-whole, turn-of}
 use Rattle.sys_opening.proofs.Trying.{tries-whole}
 use Rattle.sys_opening.specs.Halting.{Halts, HaveSpellings, Tries}
-use Rattle.sys_opening.specs.Owned.{folds_in, journals_of}
 use Rattle.sys_opening.specs.Resolving.{Settles, commit_writes}
 use Rattle.sys_opening.specs.declared.fault.OpenFault.{OpenFault}
+use Rattle.sys_owners.specs.Owned.{folds_in, journals_of}
 use Rattle.sys_opening.proofs.resolving.settle_all.Goals as goal
 
 pub loop-index-init : goal.loop-index-init

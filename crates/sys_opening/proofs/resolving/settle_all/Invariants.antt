@@ -1,6 +1,6 @@
 use Rattle.std.proofs.Common.{drop}
 use Rattle.sys_opening.proofs.Settling.{Settling}
-use Rattle.sys_opening.specs.Owned.{folds_in}
+use Rattle.sys_owners.specs.Owned.{folds_in}
 use Rattle.sys_opening.proofs.resolving.settle_all.Given as goal
 
 -- the branches of the commits so far are settled

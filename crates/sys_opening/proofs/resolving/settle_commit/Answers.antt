@@ -7,8 +7,8 @@ use Rattle.sys_opening.proofs.Finished.{settles-none}
 use Rattle.sys_opening.proofs.Settling.{told-has, told-nothing, told-writes}
 use Rattle.sys_opening.proofs.Trying.{tries-all}
 use Rattle.sys_opening.specs.Halting.{Halts, Tries}
-use Rattle.sys_opening.specs.Owned.{folds_in, journals_of}
 use Rattle.sys_opening.specs.Resolving.{Settles}
+use Rattle.sys_owners.specs.Owned.{folds_in, journals_of}
 use Rattle.sys_opening.proofs.resolving.settle_commit.Goals as goal
 
 pub settle-requires-clause-committed : goal.settle-requires-clause-committed

@@ -4,7 +4,7 @@ use Rattle.meaning_history.specs.Reached.{first_of}
 use Rattle.meaning_history.specs.Sound.{AreSound}
 use Rattle.meaning_system.specs.Machine.{start}
 use Rattle.meaning_system.specs.State.{stored}
-use Rattle.sys_opening.specs.Owned.{folds_in}
+use Rattle.sys_owners.specs.Owned.{folds_in}
 use Rattle.sys_recovery.specs.Left.{areas_of}
 use Rattle.sys_reopening.proofs.Finding.{found-stand, reads-told, stand-found}
 use Rattle.sys_reopening.proofs.laws.the_next_run_begins_there.Goals as goal

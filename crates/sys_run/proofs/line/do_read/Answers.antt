@@ -5,7 +5,7 @@ use Rattle.dl_base.specs.declared.answer.Limit.TheVariants as limits
 use Rattle.dl_base.specs.declared.answer.Refusal.TheVariants as reasons
 use Rattle.meaning_run.specs.Built.{is_built}
 use Rattle.meaning_run.specs.Running.{met}
-use Rattle.sys_opening.specs.Owned.{journals_of}
+use Rattle.sys_owners.specs.Owned.{journals_of}
 use Rattle.sys_run.proofs.Lines.{extra-comes, in-line, met-done, met-is-full, met-moments, told-line, told-moments, unbuilt-comes}
 use Rattle.sys_run.specs.Turning.{IsAtRead}
 use Rattle.std.proofs.lemmas.Grind.{common_steps}

@@ -5,7 +5,7 @@ use Rattle.dl_base.specs.declared.answer.Answer.{Answer}
 use Rattle.dl_base.specs.declared.fault.StepFault.TheVariants as faults
 use Rattle.fm_manager.specs.Managed.{as_writes}
 use Rattle.meaning_run.specs.Running.{after, written}
-use Rattle.sys_opening.specs.Owned.{journals_of}
+use Rattle.sys_owners.specs.Owned.{journals_of}
 use Rattle.sys_run.specs.Running.{IsInRun}
 use Rattle.sys_run.specs.Turning.{Goes}
 use Rattle.sys_run.proofs.Lines.{Follow}

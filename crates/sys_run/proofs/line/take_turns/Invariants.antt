@@ -1,7 +1,7 @@
 use Rattle.std.proofs.Common.{◌≤◌, ◌+◌, ◌-◌, ℕ, List, [], length, Option}
 use Rattle.dl_areas.specs.Lists.{Lists}
 use Rattle.meaning_run.specs.Running.{Read, Run}
-use Rattle.sys_opening.specs.Owned.{journals_of}
+use Rattle.sys_owners.specs.Owned.{journals_of}
 use Rattle.sys_run.specs.Running.{Stands}
 use Rattle.sys_run.specs.Turning.{IsInLine}
 use Rattle.sys_run.proofs.Reached.{Reached}

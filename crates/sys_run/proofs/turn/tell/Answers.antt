@@ -1,5 +1,5 @@
 use Rattle.std.proofs.Common.{◌∙◌, arith}
-use Rattle.sys_opening.specs.Owned.{journals_of}
+use Rattle.sys_owners.specs.Owned.{journals_of}
 use Rattle.sys_run.proofs.Taking.{say-history, say-stands}
 use Rattle.std.proofs.lemmas.Grind.{common_steps}
 use Rattle.sys_run.proofs.turn.tell.Goals as goal

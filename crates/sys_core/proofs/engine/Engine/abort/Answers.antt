@@ -5,8 +5,8 @@ use Rattle.fm_manager.specs.Managed.{IsTakenBy, as_writes}
 use Rattle.meaning_areas.specs.Lists.{folds_on}
 use Rattle.sys_core.proofs.RollingBack.{aborts}
 use Rattle.sys_core.proofs.Spelled.{aborts-spelled}
-use Rattle.sys_opening.proofs.Placing.{manager-does, manager-open, on-ok, with_manager}
-use Rattle.sys_opening.specs.Owned.{Owned, folds_in, journals_of}
+use Rattle.sys_owners.proofs.Placing.{manager-does, manager-open, on-ok, with_manager}
+use Rattle.sys_owners.specs.Owned.{Owned, folds_in, journals_of}
 use Rattle.sys_core.proofs.engine.Engine.abort.Goals as goal
 
 pub returns-then-not-branch-clause-folds : goal.returns-then-not-branch-clause-folds

@@ -7,7 +7,7 @@ use Rattle.sys_core.proofs.Stored.{not-awaited, refused-spelled}
 use Rattle.sys_core.proofs.Commanding.{failed}
 use Rattle.sys_core.proofs.Refused.{leaves-steps}
 use Rattle.sys_core.proofs.Waiting.{awaited-is}
-use Rattle.sys_opening.specs.Owned.{journals_of}
+use Rattle.sys_owners.specs.Owned.{journals_of}
 use Rattle.sys_core.proofs.engine.Engine.archive.Goals as goal
 
 pub returns-in_err-copy : goal.returns-in_err-copy

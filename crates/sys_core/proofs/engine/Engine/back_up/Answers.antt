@@ -6,7 +6,7 @@ use Rattle.dl_base.specs.declared.step.Step.TheVariants as steps
 use Rattle.sys_core.proofs.BackingUp.{Laws, backs-up, backup-spelled, not-backed-up}
 use Rattle.sys_core.proofs.Commanding.{failed}
 use Rattle.sys_core.proofs.Spelled.{err-as}
-use Rattle.sys_opening.specs.Owned.{journals_of}
+use Rattle.sys_owners.specs.Owned.{journals_of}
 use Rattle.sys_core.proofs.engine.Engine.back_up.Goals as goal
 
 pub returns-in_err-tables : goal.returns-in_err-tables

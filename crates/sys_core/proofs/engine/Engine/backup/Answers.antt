@@ -6,7 +6,7 @@ use Rattle.dl_base.specs.declared.step.Step.TheVariants as steps
 use Rattle.sys_core.proofs.BackingUp.{lets, pending-refused, refused-spelled, unfinished-is, unfinished-refused}
 use Rattle.sys_core.proofs.Commanding.{failed}
 use Rattle.sys_core.proofs.Refused.{leaves-steps}
-use Rattle.sys_opening.specs.Owned.{journals_of}
+use Rattle.sys_owners.specs.Owned.{journals_of}
 use Rattle.sys_core.proofs.engine.Engine.backup.Goals as goal
 
 -- some transaction is not finished

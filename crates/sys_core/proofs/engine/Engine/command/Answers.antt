@@ -5,7 +5,7 @@ use Rattle.fs_files.specs.Store.{Catalog}
 use Rattle.meaning_files.specs.Commands.{refusal_of}
 use Rattle.sys_core.proofs.Commanding.{failed, refusal-found, refused}
 use Rattle.sys_core.proofs.Spelled.{refused-spelled}
-use Rattle.sys_opening.specs.Owned.{journals_of}
+use Rattle.sys_owners.specs.Owned.{journals_of}
 use Rattle.sys_core.proofs.engine.Engine.command.Goals as goal
 
 pub returns-in_err-refusal : goal.returns-in_err-refusal

@@ -7,7 +7,7 @@ use Rattle.sys_core.proofs.Knowing.{none-of, some-of}
 use Rattle.sys_core.proofs.Refused.{leaves-shown, leaves-steps, refused-none-decide, refused-phase-decide}
 use Rattle.sys_core.proofs.Seating.{seat-phase}
 use Rattle.sys_core.proofs.Spelled.{nothing-spelled}
-use Rattle.sys_opening.specs.Owned.{journals_of}
+use Rattle.sys_owners.specs.Owned.{journals_of}
 use Rattle.sys_core.proofs.engine.Engine.decide.Goals as goal
 
 -- it has no transaction

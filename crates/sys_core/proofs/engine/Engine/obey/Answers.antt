@@ -8,8 +8,8 @@ use Rattle.meaning_files.specs.Files.{Files}
 use Rattle.sys_core.proofs.Commanding.{Laws, behind_call, done, failed, looked-changes, manager-accepts, read, stopped, writing}
 use Rattle.sys_core.proofs.Spelled.{command-spelled, err-as, read-spelled}
 use Rattle.sys_core.specs.Steps.{Steps}
-use Rattle.sys_opening.proofs.Placing.{manager-open}
-use Rattle.sys_opening.specs.Owned.{journals_of}
+use Rattle.sys_owners.proofs.Placing.{manager-open}
+use Rattle.sys_owners.specs.Owned.{journals_of}
 use Rattle.sys_core.proofs.engine.Engine.obey.Goals as goal
 
 pub returns-in_err-answer-clause-steps : goal.returns-in_err-answer-clause-steps

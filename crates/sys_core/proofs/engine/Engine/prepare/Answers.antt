@@ -13,7 +13,7 @@ use Rattle.sys_core.proofs.Refused.{leaves-shown, leaves-steps, refused-none-pre
 use Rattle.sys_core.proofs.Spelled.{as-spelled, err-as, nothing-spelled}
 use Rattle.sys_core.proofs.Voted.{fault-steps, made-so, voted-shows, voted-steps, voted-writes}
 use Rattle.sys_core.specs.Steps.{Shows}
-use Rattle.sys_opening.specs.Owned.{journals_of}
+use Rattle.sys_owners.specs.Owned.{journals_of}
 use Rattle.sys_core.proofs.engine.Engine.prepare.Goals as goal
 
 -- there is no transaction

@@ -3,7 +3,7 @@ use Rattle.dl_base.specs.declared.fault.StepFault.{StepFault}
 use Rattle.dl_base.specs.declared.step.Step.TheVariants as steps
 use Rattle.sys_core.proofs.Stored.{Laws, copy-room, copy-spelled, copy-taken, later, not-stored, stored}
 use Rattle.sys_core.specs.Steps.{Steps}
-use Rattle.sys_opening.proofs.Placing.{manager-open}
+use Rattle.sys_owners.proofs.Placing.{manager-open}
 use Rattle.sys_core.proofs.engine.Engine.put_copy.Goals as goal
 
 pub store-requires-clause-ready : goal.store-requires-clause-ready

@@ -8,7 +8,7 @@ use Rattle.dl_base.specs.declared.step.Step.TheVariants as steps
 use Rattle.sys_core.proofs.Commanding.{failed}
 use Rattle.sys_core.proofs.Refused.{leaves-steps}
 use Rattle.sys_core.proofs.Restored.{busy-refused, plan-refused, refused-spelled}
-use Rattle.sys_opening.specs.Owned.{journals_of}
+use Rattle.sys_owners.specs.Owned.{journals_of}
 use Rattle.sys_core.proofs.engine.Engine.restore.Goals as goal
 
 -- a session has a transaction

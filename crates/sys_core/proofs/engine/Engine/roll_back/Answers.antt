@@ -14,7 +14,7 @@ use Rattle.sys_core.proofs.Refused.{leaves-shown, leaves-steps, refused-none-rol
 use Rattle.sys_core.proofs.RollingBack.{aborts, aborts-taken, active-step, active-writes, beside-links, beside-self, prepared-step, prepared-writes, roll-back-fault, roll-back-kept, rolls-back, rolls-back-shown}
 use Rattle.sys_core.proofs.Seating.{seat-phase}
 use Rattle.sys_core.proofs.Spelled.{as-spelled, nothing-spelled}
-use Rattle.sys_opening.specs.Owned.{folds_in, journals_of}
+use Rattle.sys_owners.specs.Owned.{folds_in, journals_of}
 use Rattle.sys_core.proofs.engine.Engine.roll_back.Goals as goal
 
 -- a session without a transaction

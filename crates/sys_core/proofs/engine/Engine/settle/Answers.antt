@@ -13,7 +13,7 @@ use Rattle.meaning_system.specs.Writes.{whole_finish}
 use Rattle.sys_core.proofs.Finishing.{finish-settles, left-finishable, no-records, nothing-settled}
 use Rattle.sys_core.proofs.Spelled.{as-spelled, finish-spelled}
 use Rattle.sys_core.specs.Between.{IsBetween}
-use Rattle.sys_opening.specs.Owned.{folds_in, journals_of}
+use Rattle.sys_owners.specs.Owned.{folds_in, journals_of}
 use Rattle.sys_core.proofs.engine.Engine.settle.Goals as goal
 
 pub finish-requires-clause-fits : goal.finish-requires-clause-fits

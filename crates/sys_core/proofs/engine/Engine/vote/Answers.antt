@@ -4,7 +4,7 @@ use Rattle.sys_core.proofs.Entering.{can-enter, no-vote, roomy-votes}
 use Rattle.sys_core.proofs.Roomy.{room-journals}
 use Rattle.sys_core.proofs.Voted.{can-roomy}
 use Rattle.sys_core.proofs.Voting.{copies-of, files-of, files-voted, never-none, seat-found, there-in}
-use Rattle.sys_opening.specs.Owned.{journals_of}
+use Rattle.sys_owners.specs.Owned.{journals_of}
 use Rattle.sys_core.proofs.engine.Engine.vote.Goals as goal
 
 pub unreachable-requires : goal.unreachable-requires
