@@ -6,7 +6,8 @@ calls on the device that a commit makes; and how fast a folder is opened.
 
 What is timed is the built program over copies of folders that an earlier run of it has filled: a table of 1,000 rows, or of 100,000.
 The time of some lines is that between the answer of a line before them, which touches nothing, and the answer of the last of them, as
-they come through a pipe, so neither the opening nor the end of the run is in it; on a disk it is real time, in memory processor time.
+they come through a pipe, so neither the opening nor the end of the run is in it. In memory the best 500 lines in a row count, since a
+machine that does other work too is slower at one time than at another.
 SQLite is the one that Python brings along, over a file in the same place, with a write-ahead log that is synced at each commit
 (`journal_mode` WAL, `synchronous` FULL); its time is that of handing it the statements one by one. Each time is the best of some runs,
 those of 1,000 rows, of 100,000 and of SQLite taken in turn. An answer that is not the right one ends the script.
@@ -38,6 +39,7 @@ POLL = 0.0001
 GROWTH = 1.5
 OF_SQLITE = 2.5
 TUPLES = 1_000
+IN_A_ROW = 500
 COLUMNS = "(id INTEGER PRIMARY KEY, v INTEGER, s VARCHAR(20))"
 MARK = "@nobody read /nothing"
 MARK_TOLD = "refused no file /nothing"
@@ -126,7 +128,7 @@ class Run:
             os.close(write)
             # The first answer came behind the last look that found none, so no time is told too short.
             empty = first = last = start, 0
-            self.peak = 0
+            self.peak, lines_told, self.looks = 0, 0, []
             while True:
                 look = time.monotonic(), processor_of(child.pid)
                 try:
@@ -141,12 +143,15 @@ class Run:
                 if not told:
                     first, self.peak = last, peak_so_far(child.pid)
                 told += part
+                lines_told += part.count(b"\n")
+                self.looks.append((lines_told, last[0]))
             child.wait()
             os.close(read)
         self.told = told.decode().splitlines()
         self.opening = first[0] - start, first[1]
         self.seconds = last[0] - empty[0]
         self.processor = last[1] - empty[1]
+        self.looks.insert(0, (0, empty[0]))
         wanted = [MARK_TOLD] + [answer for _, answer in lines]
         heads = [line.partition(": ") for line in self.told if line.partition(":")[0].isdigit()]
         for i, answer in enumerate(wanted):
@@ -154,6 +159,17 @@ class Run:
                 sys.exit("line %d was not answered `%s` but `%s`" % (i + 1, answer, "".join(heads[i]) if i < len(heads) else ""))
         if child.returncode != 0:
             sys.exit("the program ended with status %d" % child.returncode)
+
+
+def best_of(looks, lines):
+    """The best time of a line among so many lines in a row, or a few more, in seconds, from looks at the lines told so far and when. With
+    fewer lines in all it is that of all."""
+    times, (place, took) = [], looks[0]
+    for there, then in looks[1:]:
+        if there - place >= min(lines, looks[-1][0]):
+            times.append((then - took) / (there - place))
+            place, took = there, then
+    return min(times)
 
 
 def run_in(program, folder, place, lines):
@@ -167,7 +183,7 @@ def run_in(program, folder, place, lines):
 
 class Cost:
     """How long some lines take in copies of a folder, the best of the rounds so far: on a disk the time between the answers, in memory
-    the processor time between them."""
+    that of the best lines in a row, as if all were as quick."""
 
     def __init__(self, program, folder, place, lines):
         self.given = program, folder, place, lines
@@ -175,7 +191,7 @@ class Cost:
 
     def round(self):
         run = run_in(*self.given)
-        self.best = min(self.best, run.seconds if is_disk(self.given[2]) else run.processor)
+        self.best = min(self.best, run.seconds if is_disk(self.given[2]) else best_of(run.looks, IN_A_ROW) * len(self.given[3]))
         return self
 
     def seconds(self):
@@ -272,7 +288,7 @@ def filled_base(statements):
 
 
 def seconds_of_sqlite(folder, place, statements):
-    clock = time.monotonic if is_disk(place) else time.process_time
+    clock = time.monotonic
     there = copied(folder, place)
     try:
         base = opened_base(there)
@@ -290,7 +306,8 @@ def seconds_of_sqlite(folder, place, statements):
 def compared(words, place, counts, folders, bases):
     """Each kind of statement at both sizes, here and in SQLite."""
     for name, (make, _) in KINDS.items():
-        counts_of = {rows: count_for(name, counts[name], rows) for rows in (words.few, words.many)}
+        # As many over many rows as over few, so that the best of as many counts.
+        counts_of = dict.fromkeys((words.few, words.many), count_for(name, counts[name], words.few))
         costs = {rows: Cost(words.program, folders[rows], place, in_session(make(count, rows))) for rows, count in counts_of.items()}
         best = collections.defaultdict(lambda: float("inf"))
         for _ in range(words.runs):

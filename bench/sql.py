@@ -1,11 +1,14 @@
 #!/usr/bin/env python3
-"""Processor time of statements of SQL over tables in memory, beside SQLite in memory on the same statements in the same run.
+"""Time of statements of SQL over tables in memory, beside SQLite in memory on the same statements in the same run.
 
-What is timed is the built program of `crates/sql_shell`, which reads statements, a line each, and tells their answers. Of each kind
-the time is that of a run with the statements that are measured, less that of a run with those alone that come before them: the best
-of nine runs, or of as many as begin within five seconds. The program runs with the large pages of memory that `bin/datalinks` asks for.
-An answer that is not the right one ends the script. SQLite is the one that Python brings along; its time is that of handing it the same
-statements one by one and taking their rows.
+What is timed is the built program of `crates/sql_shell`, which reads statements from a file, a line each, and tells their answers. How far
+it has read is looked at all the while, so neither what comes before the statements that are measured nor the end of the program is in
+their time: a comment stands before them and one behind them, in which nothing is done. It is real time, since of another process the
+system tells processor time by ticks of some milliseconds alone, and the best of nine runs, and of as many as begin within two seconds,
+but of no more than begin within six. Of statements by key, here and in SQLite, the best 2,000 in a row count, and runs over few and over
+many rows take turns, since a machine that does other work too is slower at one time than at another. The program runs with the large
+pages of memory that `bin/datalinks` asks for. An answer that is not the right one ends the script. SQLite is the one that Python brings
+along; its time is that of handing it the same statements one by one and taking their rows.
 
 Printed are: INSERTs of a row each into a table with a key, 10,000 and 20,000 of them; UPDATE, DELETE and SELECT by key over 1,000 and
 over 100,000 rows, for one statement, of keys far apart, and UPDATE of one key after the other too; joins by a key; a join of three
@@ -28,7 +31,10 @@ ROOT = pathlib.Path(__file__).resolve().parent.parent
 FOLDER = ROOT / "crates" / "sql_shell"
 PROGRAM = FOLDER / "out" / "sql_shell"
 RUNS = 9
-ENOUGH = 5.0
+PART = 2_000
+COMMENT = b"-- " + b"." * 300_000 + b"\n"
+LEAST = 2.0
+ENOUGH = 6.0
 TUPLES = 1_000
 CREATE = "CREATE TABLE %s (id INTEGER PRIMARY KEY, v INTEGER, s VARCHAR(20))"
 
@@ -83,7 +89,7 @@ def join(rows, others):
 
 def three(rows):
     made = table("a", rows) + table("b", rows) + table("c", rows)
-    return made, [("SELECT a.id, b.v, c.s FROM a JOIN b ON a.id = b.id JOIN c ON b.id = c.id", "rows %d" % rows)]
+    return made, [("SELECT a.id, b.v, c.s FROM a JOIN b ON a.id = b.id JOIN c ON b.id = c.id", "rows %d" % rows)] * 20
 
 
 def three_by_other_columns(rows):
@@ -122,52 +128,102 @@ def peak_of(pid):
     return 0
 
 
-def ours(statements):
-    """The best processor time of some runs of these statements, in seconds, and the peak of memory, in bytes."""
-    given = "".join(text + "\n" for text, _ in statements).encode()
-    wanted = ["%d: %s" % (i + 1, answer) for i, (_, answer) in enumerate(statements)]
-    times, peak = [], 0
-    while len(times) < RUNS and sum(times) < ENOUGH:
-        with tempfile.TemporaryFile() as source, tempfile.TemporaryFile() as told:
-            source.write(given)
-            source.seek(0)
-            run = subprocess.Popen([str(PROGRAM)], stdin=source, stdout=told, env=surroundings())
-            ended, status, usage = 0, 0, None
-            while not ended:
-                peak = max(peak, peak_of(run.pid))
-                ended, status, usage = os.wait4(run.pid, os.WNOHANG)
-                if not ended:
-                    time.sleep(0.002)
-            run.returncode = os.waitstatus_to_exitcode(status)
-            times.append(usage.ru_utime + usage.ru_stime)
-            told.seek(0)
-            lines = told.read().decode().splitlines()
-        heads = [line for line in lines if line.partition(":")[0].isdigit()]
-        if run.returncode != 0 or heads != wanted:
-            sys.exit("the program ended with status %d, or another answer was told" % run.returncode)
-    return min(times), peak
+def watched(run, source):
+    """How many bytes of its source a run has done with, at least, and when, each time that it was seen to have read on; and its peak of
+    memory, in bytes. When it reads on it has done with all that it had read before."""
+    seen, last, peak, looks = [], 0, 0, 0
+    while run.poll() is None:
+        place, took = os.lseek(source, 0, os.SEEK_CUR), time.perf_counter()
+        if place != last:
+            seen.append((last, took))
+            last = place
+        if looks % 50 == 0:
+            peak = max(peak, peak_of(run.pid))
+        looks += 1
+        time.sleep(0.00002)
+    return seen, peak
 
 
-def of_sqlite(before, statements):
-    """The processor time in which SQLite takes the statements, in seconds."""
+def ran(before, statements):
+    """What the program was given, where the statements begin and end in it, how far it had read when, and its peak of memory."""
+    first, given = ("".join(text + "\n" for text, _ in some).encode() for some in (before, statements))
+    answers = [answer for _, answer in before] + [None] + [answer for _, answer in statements]
+    wanted = ["%d: %s" % (i + 1, answer) for i, answer in enumerate(answers) if answer]
+    text = first + COMMENT + given + COMMENT
+    with tempfile.TemporaryFile() as source, tempfile.TemporaryFile() as told:
+        source.write(text)
+        source.seek(0)
+        run = subprocess.Popen([str(PROGRAM)], stdin=source, stdout=told, env=surroundings())
+        seen, peak = watched(run, source.fileno())
+        status = run.wait()
+        told.seek(0)
+        lines = told.read().decode().splitlines()
+    if status != 0 or [line for line in lines if line.partition(":")[0].isdigit()] != wanted:
+        sys.exit("the program ended with status %d, or another answer was told" % status)
+    return text, len(first) + len(COMMENT), len(first) + len(COMMENT) + len(given), seen, peak
+
+
+def times_of(before, statements, size):
+    """The time of a statement in each part of a run that has so many statements or a few more, in seconds, and the peak of memory."""
+    text, start, stop, seen, peak = ran(before, statements)
+    # It begins when the comment before the statements is being read, and ends when that behind them is.
+    first = max(i for i, (place, _) in enumerate(seen) if place <= start)
+    times, (place, took) = [], seen[first]
+    for there, then in seen[first + 1:]:
+        count = text.count(b"\n", max(place, start), min(there, stop))
+        if count >= size:
+            times.append((then - took) / count)
+            place, took = there, then
+    return times, peak
+
+
+def times_of_sqlite(before, statements, size):
+    """The times in which SQLite takes one of the statements, of each part that has so many, in seconds."""
+    base = sqlite3.connect(":memory:", isolation_level=None)
+    for text, _ in before:
+        base.execute(text)
     times = []
-    while len(times) < RUNS and sum(times) < ENOUGH:
-        base = sqlite3.connect(":memory:", isolation_level=None)
-        for text, _ in before:
-            base.execute(text)
-        start = time.process_time()
-        for text, _ in statements:
+    for first in range(0, len(statements) - size + 1, size):
+        start = time.perf_counter()
+        for text, _ in statements[first:first + size]:
             base.execute(text).fetchall()
-        times.append(time.process_time() - start)
-        base.close()
-    return min(times)
+        times.append((time.perf_counter() - start) / size)
+    base.close()
+    return times
 
 
-def measured(before, statements):
-    """The processor times of the statements here and in SQLite, in seconds, and the peak of memory here, in bytes."""
-    whole, peak = ours(before + statements)
-    alone, _ = ours(before)
-    return max(whole - alone, 0.0001), max(of_sqlite(before, statements), 0.0001), peak
+class Cost:
+    """The best times of one of some statements, which come behind others, here and in SQLite, in seconds, and the peak of memory
+    here, in bytes."""
+
+    def __init__(self, before, statements, size=None):
+        self.given = before, statements, min(size or len(statements), len(statements))
+        self.rounds, self.spent, self.peak = 0, 0.0, 0
+        self.here = self.sqlite = float("inf")
+
+    def is_enough(self):
+        return self.rounds >= RUNS and self.spent >= LEAST or self.spent >= ENOUGH
+
+    def round(self):
+        start = time.monotonic()
+        times, peak = times_of(*self.given)
+        self.peak, self.here = max(self.peak, peak), min([self.here, *times])
+        self.sqlite = min([self.sqlite, *times_of_sqlite(*self.given)])
+        self.rounds, self.spent = self.rounds + 1, self.spent + time.monotonic() - start
+
+    def of_all(self):
+        """The times of all statements."""
+        count = len(self.given[1])
+        return self.here * count, self.sqlite * count
+
+
+def measured(*costs):
+    """The costs, once each has had its rounds, by turns."""
+    while not all(cost.is_enough() for cost in costs):
+        for cost in costs:
+            if not cost.is_enough():
+                cost.round()
+    return costs
 
 
 def line(name, took, sqlite):
@@ -175,52 +231,45 @@ def line(name, took, sqlite):
 
 
 def twice(name, make, size):
-    once, sqlite, _ = measured(*make(size))
-    line("%d %s" % (size, name), once, sqlite)
-    double, sqlite, _ = measured(*make(2 * size))
-    line("%d %s" % (2 * size, name), double, sqlite)
-    print("  %.2f times the time for twice as many" % (double / once), flush=True)
+    costs = measured(Cost(*make(size)), Cost(*make(2 * size)))
+    for count, cost in zip((size, 2 * size), costs):
+        line("%d %s" % (count, name), *cost.of_all())
+    print("  %.2f times the time for twice as many" % (costs[1].of_all()[0] / costs[0].of_all()[0]), flush=True)
 
 
 def grown(name, make, few, many):
     """A statement over few and over many rows."""
-    times = []
-    for rows in (few, many):
-        before, statements = make(rows)
-        took, sqlite, _ = measured(before, statements)
-        line("%d %s over %d rows" % (len(statements), name, rows), took, sqlite)
-        times.append(took / len(statements))
-        print("  %.1f microseconds a statement" % (times[-1] * 1e6), flush=True)
-    print("  %.2f times the time for %d times as many rows" % (times[1] / times[0], many // few), flush=True)
+    costs = measured(*(Cost(*make(rows), size=PART) for rows in (few, many)))
+    for rows, cost in zip((few, many), costs):
+        print("%s over %d rows: %.2f us, SQLite %.2f us, %.2f times SQLite's time" % (name, rows, cost.here * 1e6, cost.sqlite * 1e6, cost.here / cost.sqlite), flush=True)
+    print("  %.2f times the time for %d times as many rows" % (costs[1].here / costs[0].here, many // few), flush=True)
 
 
 def one(name, made):
-    took, sqlite, peak = measured(*made)
-    line(name, took, sqlite)
-    return peak
+    cost, = measured(Cost(*made))
+    line(name, *cost.of_all())
+    return cost.peak
 
 
 def product(name, make):
     peak = one(name, make(10_000, 1_000))
-    _, before = ours(make(10_000, 1_000)[0])
+    before = ran(make(10_000, 1_000)[0], [])[-1]
     print("  a peak of %.1f MB, and of %.1f MB without it" % (peak / 1e6, before / 1e6), flush=True)
 
 
 def row_bytes():
-    rows = 100_000
-    _, full = ours(table("t", rows))
-    _, empty = ours(table("t", TUPLES))
-    print("a row of two numbers and a short text, with its key's entry: %d bytes" % ((full - empty) // (rows - TUPLES)), flush=True)
+    full, empty = (ran(table("t", rows), [])[-1] for rows in (100_000, TUPLES))
+    print("a row of two numbers and a short text, with its key's entry: %d bytes" % ((full - empty) // (100_000 - TUPLES)), flush=True)
 
 
 KINDS = {
     "INSERT": lambda: twice("INSERTs of a row into a table with a key", inserts, 10_000),
-    "UPDATE by key": lambda: grown("UPDATEs by key", updates, 1_000, 100_000),
-    "UPDATE by key, in order": lambda: grown("UPDATEs by key, in the order of the keys", updates_in_order, 1_000, 100_000),
-    "DELETE by key": lambda: grown("DELETEs by key", deletes, 1_000, 100_000),
-    "SELECT by key": lambda: grown("SELECTs by key", selects, 1_000, 100_000),
+    "UPDATE by key": lambda: grown("an UPDATE by key", updates, 1_000, 100_000),
+    "UPDATE by key, in order": lambda: grown("an UPDATE by key, in the order of the keys,", updates_in_order, 1_000, 100_000),
+    "DELETE by key": lambda: grown("a DELETE by key", deletes, 1_000, 100_000),
+    "SELECT by key": lambda: grown("a SELECT by key", selects, 1_000, 100_000),
     "join by key": lambda: one("a join by key of 10,000 rows with 1,000", join(10_000, 1_000)),
-    "three-way join by key": lambda: one("a join by key of three tables of 200 rows", three(200)),
+    "three-way join by key": lambda: one("20 joins by key of three tables of 200 rows", three(200)),
     "three-way join": lambda: one("a join of three tables of 200 rows by columns that are no keys", three_by_other_columns(200)),
     "COUNT": lambda: product("COUNT(*) over 10,000,000 combined rows", counted),
     "GROUP BY of combined rows": lambda: product("1,000 groups of 10,000,000 combined rows, with their counts and sums", counted_in_groups),
