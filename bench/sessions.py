@@ -6,8 +6,9 @@ calls on the device that a commit makes; and how fast a folder is opened.
 
 What is timed is the built program over copies of folders that an earlier run of it has filled: a table of 1,000 rows, or of 100,000.
 The time of some lines is that between the answer of a line before them, which touches nothing, and the answer of the last of them, as
-they come through a pipe, so neither the opening nor the end of the run is in it. In memory the best 500 lines in a row count, since a
-machine that does other work too is slower at one time than at another.
+they come through a pipe, so neither the opening nor the end of the run is in it. In memory the best 500 lines in a row count, here and
+in SQLite, since a machine that does other work too is slower at one time than at another. It is real time: of another process the system
+tells processor time by ticks of some milliseconds alone.
 SQLite is the one that Python brings along, over a file in the same place, with a write-ahead log that is synced at each commit
 (`journal_mode` WAL, `synchronous` FULL); its time is that of handing it the statements one by one. Each time is the best of some runs,
 those of 1,000 rows, of 100,000 and of SQLite taken in turn. An answer that is not the right one ends the script.
@@ -108,8 +109,8 @@ def processor_of(pid):
 
 
 class Run:
-    """A run of the program in a folder: what it told, how long the opening took and how many bytes were in memory then, and how long the
-    lines took behind the mark, both in seconds and in seconds of the processor."""
+    """A run of the program in a folder: what it told, how long the opening took and how many bytes were in memory then; how long the
+    lines took behind the mark, both in seconds and in seconds of the processor; and how many lines had been told when, from the mark on."""
 
     def __init__(self, program, folder, lines, before=()):
         given = "".join(text + "\n" for text, _ in [(MARK, MARK_TOLD)] + lines).encode()
@@ -128,7 +129,7 @@ class Run:
             os.close(write)
             # The first answer came behind the last look that found none, so no time is told too short.
             empty = first = last = start, 0
-            self.peak, lines_told, self.looks = 0, 0, []
+            self.peak, count, looks = 0, 0, []
             while True:
                 look = time.monotonic(), processor_of(child.pid)
                 try:
@@ -143,15 +144,16 @@ class Run:
                 if not told:
                     first, self.peak = last, peak_so_far(child.pid)
                 told += part
-                lines_told += part.count(b"\n")
-                self.looks.append((lines_told, last[0]))
+                count += part.count(b"\n")
+                looks.append((count, last[0]))
             child.wait()
             os.close(read)
         self.told = told.decode().splitlines()
         self.opening = first[0] - start, first[1]
         self.seconds = last[0] - empty[0]
         self.processor = last[1] - empty[1]
-        self.looks.insert(0, (0, empty[0]))
+        # The mark counts as told at the last look before its answer.
+        self.looks = [(1, empty[0]), *looks]
         wanted = [MARK_TOLD] + [answer for _, answer in lines]
         heads = [line.partition(": ") for line in self.told if line.partition(":")[0].isdigit()]
         for i, answer in enumerate(wanted):
@@ -162,11 +164,12 @@ class Run:
 
 
 def best_of(looks, lines):
-    """The best time of a line among so many lines in a row, or a few more, in seconds, from looks at the lines told so far and when. With
-    fewer lines in all it is that of all."""
+    """The best time of one among so many in a row, or a few more, in seconds, from how many were done when. With fewer in all it is that of
+    all."""
     times, (place, took) = [], looks[0]
+    lines = min(lines, looks[-1][0] - place)
     for there, then in looks[1:]:
-        if there - place >= min(lines, looks[-1][0]):
+        if there - place >= lines:
             times.append((then - took) / (there - place))
             place, took = there, then
     return min(times)
@@ -183,15 +186,20 @@ def run_in(program, folder, place, lines):
 
 class Cost:
     """How long some lines take in copies of a folder, the best of the rounds so far: on a disk the time between the answers, in memory
-    that of the best lines in a row, as if all were as quick."""
+    the processor time between them; with a number of lines in a row the time as if all were as quick as the best so many."""
 
-    def __init__(self, program, folder, place, lines):
+    def __init__(self, program, folder, place, lines, in_a_row=None):
         self.given = program, folder, place, lines
+        self.in_a_row = in_a_row
         self.best = float("inf")
 
     def round(self):
         run = run_in(*self.given)
-        self.best = min(self.best, run.seconds if is_disk(self.given[2]) else best_of(run.looks, IN_A_ROW) * len(self.given[3]))
+        if self.in_a_row:
+            took = best_of(run.looks, self.in_a_row) * len(self.given[3])
+        else:
+            took = run.seconds if is_disk(self.given[2]) else run.processor
+        self.best = min(self.best, took)
         return self
 
     def seconds(self):
@@ -287,18 +295,18 @@ def filled_base(statements):
     return folder
 
 
-def seconds_of_sqlite(folder, place, statements):
-    clock = time.monotonic
+def seconds_of_sqlite(folder, place, statements, in_a_row):
+    """How long SQLite takes for some statements, in seconds, as if all were as quick as the best so many in a row."""
     there = copied(folder, place)
     try:
         base = opened_base(there)
         base.execute("SELECT COUNT(*) FROM t").fetchall()
-        start = clock()
-        for text, _ in statements:
+        looks = [(0, time.monotonic())]
+        for count, (text, _) in enumerate(statements):
             base.execute(text).fetchall()
-        took = clock() - start
+            looks.append((count + 1, time.monotonic()))
         base.close()
-        return took
+        return best_of(looks, in_a_row) * len(statements)
     finally:
         shutil.rmtree(there)
 
@@ -307,14 +315,15 @@ def compared(words, place, counts, folders, bases):
     """Each kind of statement at both sizes, here and in SQLite."""
     for name, (make, _) in KINDS.items():
         # As many over many rows as over few, so that the best of as many counts.
-        counts_of = dict.fromkeys((words.few, words.many), count_for(name, counts[name], words.few))
-        costs = {rows: Cost(words.program, folders[rows], place, in_session(make(count, rows))) for rows, count in counts_of.items()}
+        count = count_for(name, counts[name], words.few)
+        statements = {rows: make(count, rows) for rows in (words.few, words.many)}
+        in_a_row = len(statements[words.few]) if is_disk(place) else IN_A_ROW
+        costs = {rows: Cost(words.program, folders[rows], place, in_session(made), in_a_row) for rows, made in statements.items()}
         best = collections.defaultdict(lambda: float("inf"))
         for _ in range(words.runs):
-            for rows, count in counts_of.items():
+            for rows, made in statements.items():
                 best["here", rows] = costs[rows].round().seconds() / count
-                took = seconds_of_sqlite(bases[rows], place, make(count, rows)) / count
-                best["SQLite", rows] = min(best["SQLite", rows], took)
+                best["SQLite", rows] = min(best["SQLite", rows], seconds_of_sqlite(bases[rows], place, made, in_a_row) / count)
         for rows in (words.few, words.many):
             ratio = best["here", rows] / best["SQLite", rows]
             shown = judge("%s over %d rows on a disk, to SQLite's time" % (name, rows), ratio, OF_SQLITE) if is_disk(place) else "%.2f times" % ratio
