@@ -4,7 +4,7 @@ ghost use Rattle.std.specs.List.Sorted.{IsStrictlySortedBy};
 ghost use Rattle.std.specs.Ordering.{is_eq};
 ghost use Rattle.dl_pages.specs.Entries.{entry_order, IsLeast};
 
-use crate::{Ordered, Pages, Predicate};
+use crate::{Ordered, Pages, Predicate, Ranked};
 use dl_base::LinkNo;
 use std::cmp::Ordering;
 
@@ -22,6 +22,10 @@ impl<K: Ordered> Ordered for (K, u64) {
     }
 
     ghost total = { then_total (on_total (λ e. e.0) K.total) (on_total (λ e. e.1) nat_cmp_total) };
+
+    ghost use Rattle.dl_pages.specs.Entries.{entry_follows};
+
+    ghost follows = { entry_follows K.order K.rank K.follows };
 }
 
 /// What is compared with keys, as a text's bytes, so that a look makes no key. For contracts it is itself a key.
@@ -30,6 +34,10 @@ pub trait Probe<K: Ordered> {
 
     fn compare(&self, other: &K) -> Ordering
         ensures { result ≡ K.order other.now (key self.now) };
+
+    /// The rank of the key.
+    fn rank(&self) -> u64
+        ensures { result ≡ K.rank (key self.now) };
 }
 
 // The test of what is under a smaller key.
@@ -46,6 +54,18 @@ impl<K: Ordered, P: Probe<K>> Predicate<(K, u64)> for Smaller<'_, P> {
     fn passes(&self, item: &(K, u64)) -> bool {
         self.probe.compare(&item.0) == Ordering::Less
     }
+
+    ghost pivot = { λ s. K.rank (P.key s.probe.now) };
+
+    fn pivot(&self) -> u64 {
+        self.probe.rank()
+    }
+
+    ghost use Rattle.dl_pages.specs.Orders.{lower, higher};
+
+    ghost low = { λ s e. lower K.order K.rank K.follows e.0 (P.key s.probe.now) };
+
+    ghost high = { λ s e. higher K.order K.rank K.total K.follows e.0 (P.key s.probe.now) };
 }
 
 // Whether a key is equal to what is looked for.
@@ -78,5 +98,9 @@ impl Probe<LinkNo> for LinkNo {
 
     fn compare(&self, other: &LinkNo) -> Ordering {
         other.order(self)
+    }
+
+    fn rank(&self) -> u64 {
+        Ranked::rank(self)
     }
 }

@@ -5,8 +5,10 @@ mod entries;
 mod members;
 mod order;
 mod pages;
+mod ranks;
 
 pub use entries::{Probe, least};
 pub use members::{with_member, without_member};
 pub use order::Ordered;
 pub use pages::{Pages, Predicate};
+pub use ranks::Ranked;

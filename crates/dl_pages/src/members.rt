@@ -24,6 +24,18 @@ impl<T: Ordered> Predicate<T> for Under<'_, T> {
     fn passes(&self, item: &T) -> bool {
         item.order(self.item) == Ordering::Less
     }
+
+    ghost pivot = { λ u. T.rank u.item.now };
+
+    fn pivot(&self) -> u64 {
+        self.item.rank()
+    }
+
+    ghost use Rattle.dl_pages.specs.Orders.{lower, higher};
+
+    ghost low = { λ u x. lower T.order T.rank T.follows x u.item.now };
+
+    ghost high = { λ u x. higher T.order T.rank T.total T.follows x u.item.now };
 }
 
 // Whether an item equal to this one stands at a place.

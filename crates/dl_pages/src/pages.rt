@@ -1,11 +1,13 @@
-// A list in a balanced tree of shared pages. No page is ever changed: each change makes new pages along one path from the top and
-// shares the others, so a copy costs one count, and want of memory leaves every list as it was.
-ghost use Rattle.std.specs.Prelude.{◌≡◌, ◌↔◌, IsTrue, [], ◌∷◌, ◌++◌, ◌<◌, ◌≤◌, length, slice_get, slice_set, remove, Some, IfOk, Bool, map, OnOk, OnErr, IfSome, MatchOption};
+// A list in a tree of wide shared pages. No page is ever changed once it is shared: each change makes new pages along one path from
+// the top and shares the others, so a copy costs one count, and want of memory leaves every list as it was.
+ghost use Rattle.std.specs.Prelude.{◌≡◌, ◌↔◌, ℕ, IsTrue, true, false, [], ◌∷◌, ◌++◌, ◌+◌, ◌<◌, ◌≤◌, length, drop, slice_get, slice_set, remove, Some, IfOk, Bool, OnOk, IfSome, IfNone, MatchOption};
 ghost use Rattle.std.specs.List.{insert};
 ghost use Rattle.std.specs.Option.{option_copied};
 ghost use Rattle.std.specs.Arc.{arc_value};
+ghost use Rattle.dl_pages.specs.Listing.{flatten, AreFilled, AreBelow, Begins};
 ghost use Rattle.dl_pages.specs.Points.{IsPartitioned, IsPartitionPoint};
 
+use crate::Ranked;
 use dl_base::{Copied, List, Memory, Same};
 use std::alloc::Global;
 use std::marker::Model;
@@ -13,103 +15,100 @@ use std::sync::Arc;
 
 /// A list whose copies share the pages that they have in common. Contracts see the list.
 ///
-/// A page is a node of a tree balanced by length, after Adams: one side has at most about three times as many items as the other.
-/// Contracts don't say so, since only costs rest on it.
-#[cycle(pages)]
+/// It is a tree of pages of up to 8 parts, all of its items equally far from the top. A page that has become empty goes, and pages
+/// that have become small are not joined, so costs grow with the logarithm of the most items that there have been. Contracts don't
+/// say so, since only costs rest on it.
 #[derive(Drop)]
-pub struct Pages<T> {
-    top: Option<Arc<Page<T>>>,
+pub struct Pages<T: Ranked> {
+    top: Part<T>,
 }
 
-// An item, and the items before and behind it. Contracts see the list of all. How many stand before the item is kept beside how many
-// there are, so that a search reads no page of a side that it does not enter. Counts of 32 bits keep a page small.
-#[cycle(pages)]
-#[derive(Drop)]
-struct Page<T> {
-    len: u32,
-    middle: u32,
-    before: Pages<T>,
-    item: Arc<T>,
-    behind: Pages<T>,
-}
-
-impl<T> Model for Pages<T> {
-    ghost use Rattle.std.specs.Prelude.{List, length, ◌+◌};
-    ghost use Rattle.std.proofs.Common.{arith, length-append};
+impl<T: Ranked> Model for Pages<T> {
+    ghost use Rattle.std.specs.Prelude.{List};
 
     ghost Value = { List T };
 
-    ghost use Rattle.dl_pages.specs.Listing.{below};
-
-    ghost view = { λ p. below p.top };
-
-    ghost size = { λ l. length l + length l + 1 };
-
-    ghost size_decreases = { λ a h. Prim.grind (arith, length-append) };
+    ghost view = { λ p. p.top.0 };
 }
 
-impl<T> Model for Page<T> {
-    ghost use Rattle.std.specs.Prelude.{List, length, ◌++◌, ◌∷◌, ◌≡◌, ◌+◌};
-    ghost use Rattle.std.proofs.Common.{arith, length-append};
-
-    ghost Value = { List T };
-
-    ghost view = { λ p. p.before ++ p.item.value ∷ p.behind };
-
-    ghost invariant = { λ p. (p.len ≡ length (p.before ++ p.item.value ∷ p.behind)) × (p.middle ≡ length p.before) };
-
-    ghost size = { λ l. length l + length l };
-
-    ghost size_decreases = { λ a h. Prim.grind (arith, length-append) };
+// A page, or an item, or nothing; how many items there are, and the rank of the first. A search reads ranks and counts here, and no
+// page or item that it does not enter.
+#[cycle(pages)]
+#[derive(Drop)]
+struct Part<T: Ranked> {
+    rank: u64,
+    len: usize,
+    item: Option<Arc<T>>,
+    page: Option<Arc<Page<T>>>,
 }
 
-impl<T> Pages<T> {
+impl<T: Ranked> Model for Part<T> {
+    ghost use Rattle.std.specs.Prelude.{List, ℕ, length, ◌≡◌};
+    ghost use Rattle.dl_pages.specs.Listing.{items_of, height_of, HasRank};
+    ghost use Rattle.std.proofs.Common.{arith};
+
+    ghost Value = { List T × ℕ };
+
+    ghost view = { λ p. (items_of p.item p.page, height_of p.page) };
+
+    ghost invariant = { λ p. (p.len ≡ length (items_of p.item p.page)) × HasRank T.rank p.rank (items_of p.item p.page) };
+
+    ghost size = { λ v. v.1 };
+
+    ghost size_decreases = { λ a h. Prim.grind (arith) };
+}
+
+// Parts in a row, the first `used` of the places. A new page is filled before it is shared.
+#[cycle(pages)]
+#[derive(Drop)]
+struct Page<T: Ranked> {
+    rank: u64,
+    len: usize,
+    used: usize,
+    parts: [Part<T>; 8],
+}
+
+impl<T: Ranked> Model for Page<T> {
+    ghost use Rattle.std.specs.Prelude.{List, ℕ, length, ◌≡◌, ◌≤◌, ◌+◌, take};
+    ghost use Rattle.dl_pages.specs.Listing.{flatten, HasRank, AreFilled};
+    ghost use Rattle.std.proofs.Common.{arith};
+    ghost use denote.Param.Weighed.{most};
+
+    ghost Value = { List T × ℕ };
+
+    ghost view = { λ p. (flatten (take p.used p.parts), most (λ v. v.1 + 1) p.parts) };
+
+    ghost invariant = { λ p. (p.used ≤ 8) × (p.len ≡ length (flatten (take p.used p.parts))) × HasRank T.rank p.rank (flatten (take p.used p.parts)) × AreFilled (take p.used p.parts) };
+
+    ghost size = { λ v. v.1 };
+
+    ghost size_decreases = { λ a h. Prim.grind (arith) };
+}
+
+impl<T: Ranked> Pages<T> {
     /// The list of no items. It takes no memory.
     pub fn empty() -> Pages<T>
         ensures { result ≡ [] }
     {
-        Pages { top: None }
+        Pages { top: Part::blank() }
     }
 
     /// How many items there are. It takes no memory, and costs the same for each list.
     pub fn len(&self) -> usize
         ensures { result ≡ length self.now }
     {
-        self.count() as usize
-    }
-
-    fn count(&self) -> u32
-        ensures { result ≡ length self.now }
-    {
-        match &self.top {
-            None => 0,
-            Some(page) => page.len,
-        }
+        self.top.len()
     }
 
     /// The item at a place from 0; None past the last. It takes no memory. The cost grows with the logarithm of the length.
-    #[tactic(auto, using(crate::proofs::Seams::get_seam, crate::proofs::Seams::get_left, crate::proofs::Seams::get_right))]
     pub fn at(&self, index: usize) -> Option<&T>
         ensures { option_copied result ≡ slice_get self.now index }
     {
-        match &self.top {
-            None => None,
-            Some(page) => {
-                let page: &Page<T> = page;
-                let middle = page.middle as usize;
-                if index < middle {
-                    page.before.at(index)
-                } else if index == middle {
-                    Some(&page.item)
-                } else {
-                    page.behind.at(index - middle - 1)
-                }
-            }
-        }
+        self.top.at(index)
     }
 
     /// The item at a place from 0, where one stands. It takes no memory. The cost grows with the logarithm of the length.
-    #[tactic(auto, using(crate::proofs::Seams::none_within))]
+    #[tactic(auto, using(crate::proofs::Places::none_within))]
     pub fn item(&self, index: usize) -> &T
         requires { index < length self.now }
         ensures { slice_get self.now index ≡ Some result.now }
@@ -121,15 +120,26 @@ impl<T> Pages<T> {
     }
 }
 
-/// A test of items, as a value: it keeps what it compares with.
-pub trait Predicate<T> {
+/// A test of items, as a value: it keeps what it compares with. An item whose rank is below its pivot passes, and one whose rank is
+/// above it fails; only where the ranks are equal is the item asked.
+pub trait Predicate<T: Ranked> {
     ghost test: { Self → T → Bool };
+
+    ghost pivot: { Self → ℕ };
 
     fn passes(&self, item: &T) -> bool
         ensures { result ≡ test self.now item.now };
+
+    /// The rank at which the test turns. A search asks for it once.
+    fn pivot(&self) -> u64
+        ensures { result ≡ pivot self.now };
+
+    ghost low: { (s : Self) (x : T) → T.rank x < pivot s → test s x ≡ true };
+
+    ghost high: { (s : Self) (x : T) → pivot s < T.rank x → test s x ≡ false };
 }
 
-impl<T> Pages<T> {
+impl<T: Ranked> Pages<T> {
     /// How many items pass a test, where none that fails it is before one that passes it, as with `slice::partition_point`. It takes
     /// no memory. The cost grows with the logarithm of the length.
     pub fn partition_point<F: Predicate<T>>(&self, predicate: &F) -> usize
@@ -147,163 +157,84 @@ impl<T> Pages<T> {
         ensures point { IsPartitioned (F.test predicate.now) self.now → IsPartitionPoint (F.test predicate.now) self.now result.0 }
         ensures item { option_copied result.1 ≡ slice_get self.now result.0 }
     {
-        match &self.top {
-            None => (0, None),
-            Some(page) => {
-                let page: &Page<T> = page;
-                if predicate.passes(&page.item) {
-                    let passed = (page.len - page.behind.count()) as usize;
-                    let (place, item) = page.behind.first_failing(predicate);
-                    (passed + place, item)
-                } else {
-                    let (place, item) = page.before.first_failing(predicate);
-                    (place, Some(item.unwrap_or(&page.item)))
-                }
-            }
-        }
+        self.top.first_failing(predicate, predicate.pivot())
     }
 }
 
-impl<T: Drop> Pages<T> {
+impl<T: Drop + Ranked> Pages<T> {
     /// A list in pages. The cost grows with its length. The error is want of memory.
     pub fn of(alloc: Global, items: List<T>) -> Result<Pages<T>, Memory>
         ensures { IfOk result (λ made. made ≡ items) }
     {
-        let mut shared = Vec::new(alloc);
+        let mut parts = Vec::new(alloc);
         for item in items.into_vec() {
-            shared.push(Arc::new(alloc, item)?)?;
+            parts.push(Part::of_item(Arc::new(alloc, item)?))?;
         }
-        spread(alloc, shared.as_slice())
+        Ok(Pages {
+            top: gathered(alloc, parts)?,
+        })
     }
 
     /// The same list, which shares each page. It costs the same for each list: one count.
     pub fn share(&self) -> Result<Pages<T>, Memory>
         ensures { IfOk result (λ made. made ≡ self.now) }
     {
-        match &self.top {
-            None => Ok(Pages { top: None }),
-            Some(page) => Ok(Pages {
-                top: Some(Arc::try_clone(page)?),
-            }),
-        }
+        Ok(Pages {
+            top: self.top.share()?,
+        })
     }
 
     /// The list with one more item at a place from 0; at its end where the place is past it. This list stays. The cost
     /// grows with the logarithm of the length.
-    #[tactic(auto, using(crate::proofs::Seams::insert_left, crate::proofs::Seams::insert_right))]
     pub fn inserted(&self, alloc: Global, index: usize, item: Arc<T>) -> Result<Pages<T>, Memory>
         ensures { IfOk result (λ made. made ≡ insert self.now index (arc_value item)) }
     {
-        match &self.top {
-            None => page_of(alloc, Pages::empty(), item, Pages::empty()),
-            Some(page) => {
-                let page: &Page<T> = page;
-                let middle = page.middle as usize;
-                if index <= middle {
-                    let grown = page.before.inserted(alloc, index, item)?;
-                    balanced_behind(alloc, grown, &page.item, &page.behind)
-                } else {
-                    let grown = page.behind.inserted(alloc, index - middle - 1, item)?;
-                    balanced_before(alloc, &page.before, &page.item, grown)
-                }
-            }
+        if self.len() < index {
+            return self.inserted_within(alloc, self.len(), item);
         }
+        self.inserted_within(alloc, index, item)
+    }
+
+    fn inserted_within(&self, alloc: Global, index: usize, item: Arc<T>) -> Result<Pages<T>, Memory>
+        ensures { IfOk result (λ made. made ≡ insert self.now index (arc_value item)) }
+    {
+        let made = self.top.inserted(alloc, index, Part::of_item(item))?;
+        if made.second.len == 0 {
+            return Ok(Pages { top: made.first });
+        }
+        Ok(Pages {
+            top: page_of_made(alloc, made)?,
+        })
     }
 
     /// The list with another item at a place from 0; the same list where no item stands there. This list stays. The cost grows
     /// with the logarithm of the length.
-    #[tactic(auto, using(crate::proofs::Seams::set_left, crate::proofs::Seams::set_seam, crate::proofs::Seams::set_right))]
     pub fn replaced(&self, alloc: Global, index: usize, item: Arc<T>) -> Result<Pages<T>, Memory>
         ensures { IfOk result (λ made. made ≡ slice_set self.now index (arc_value item)) }
     {
-        match &self.top {
-            None => Ok(Pages::empty()),
-            Some(page) => {
-                let page: &Page<T> = page;
-                let middle = page.middle as usize;
-                if index < middle {
-                    let side = page.before.replaced(alloc, index, item)?;
-                    page_behind(alloc, side, &page.item, &page.behind)
-                } else if index == middle {
-                    page_of(alloc, page.before.share()?, item, page.behind.share()?)
-                } else {
-                    let side = page.behind.replaced(alloc, index - middle - 1, item)?;
-                    page_before(alloc, &page.before, &page.item, side)
-                }
-            }
-        }
+        Ok(Pages {
+            top: self.top.replaced(alloc, index, Part::of_item(item))?,
+        })
     }
 
     /// The list without the item at a place from 0; the same list where no item stands there. This list stays. The cost grows
     /// with the logarithm of the length.
-    #[tactic(auto, using(crate::proofs::Seams::remove_left, crate::proofs::Seams::remove_seam, crate::proofs::Seams::remove_right))]
     pub fn removed(&self, alloc: Global, index: usize) -> Result<Pages<T>, Memory>
         ensures { IfOk result (λ made. made ≡ remove self.now index) }
     {
-        match &self.top {
-            None => Ok(Pages::empty()),
-            Some(page) => {
-                let page: &Page<T> = page;
-                let middle = page.middle as usize;
-                if index < middle {
-                    let side = page.before.removed(alloc, index)?;
-                    balanced_behind(alloc, side, &page.item, &page.behind)
-                } else if index == middle {
-                    joined(alloc, &page.before, &page.behind)
-                } else {
-                    let side = page.behind.removed(alloc, index - middle - 1)?;
-                    balanced_before(alloc, &page.before, &page.item, side)
-                }
-            }
-        }
-    }
-
-    // The first item and the others.
-    fn without_first(&self, alloc: Global) -> Result<Option<(Arc<T>, Pages<T>)>, Memory>
-        ensures { IfOk result (λ parts. MatchOption parts (self.now ≡ []) (λ p. self.now ≡ arc_value p.0 ∷ p.1)) }
-    {
-        match &self.top {
-            None => Ok(None),
-            Some(page) => {
-                let page: &Page<T> = page;
-                match page.before.without_first(alloc)? {
-                    None => Ok(Some((Arc::try_clone(&page.item)?, page.behind.share()?))),
-                    Some((first, rest)) => {
-                        let rest = balanced_behind(alloc, rest, &page.item, &page.behind)?;
-                        Ok(Some((first, rest)))
-                    }
-                }
-            }
-        }
-    }
-
-    // The last item and the others.
-    fn without_last(&self, alloc: Global) -> Result<Option<(Pages<T>, Arc<T>)>, Memory>
-        ensures { IfOk result (λ parts. MatchOption parts (self.now ≡ []) (λ p. self.now ≡ p.0 ++ arc_value p.1 ∷ [])) }
-    {
-        match &self.top {
-            None => Ok(None),
-            Some(page) => {
-                let page: &Page<T> = page;
-                match page.behind.without_last(alloc)? {
-                    None => Ok(Some((page.before.share()?, Arc::try_clone(&page.item)?))),
-                    Some((rest, last)) => {
-                        let rest = balanced_before(alloc, &page.before, &page.item, rest)?;
-                        Ok(Some((rest, last)))
-                    }
-                }
-            }
-        }
+        Ok(Pages {
+            top: self.top.removed(alloc, index)?.lowered()?,
+        })
     }
 }
 
-impl<T: Drop> Copied for Pages<T> {
+impl<T: Drop + Ranked> Copied for Pages<T> {
     fn copy(&self) -> Result<Pages<T>, Memory> {
         self.share()
     }
 }
 
-impl<T: Same> Same for Pages<T> {
+impl<T: Same + Ranked> Same for Pages<T> {
     #[tactic(auto, using(crate::proofs::Same::take_same))]
     fn same(&self, other: &Pages<T>) -> bool {
         if self.len() != other.len() {
@@ -319,7 +250,7 @@ impl<T: Same> Same for Pages<T> {
 }
 
 // Whether two lists have the same at a place.
-fn same_at<T: Same>(pages: &Pages<T>, others: &Pages<T>, index: usize) -> bool
+fn same_at<T: Same + Ranked>(pages: &Pages<T>, others: &Pages<T>, index: usize) -> bool
     ensures { IsTrue result ↔ (slice_get pages.now index ≡ slice_get others.now index) }
 {
     match (pages.at(index), others.at(index)) {
@@ -329,217 +260,518 @@ fn same_at<T: Same>(pages: &Pages<T>, others: &Pages<T>, index: usize) -> bool
     }
 }
 
-// A page of an item and what is before and behind it. A length past `u32` is answered as want of memory, so that no caller owes
-// a bound.
-fn page_of<T: Drop>(
-    alloc: Global,
-    before: Pages<T>,
-    item: Arc<T>,
-    behind: Pages<T>,
-) -> Result<Pages<T>, Memory>
-    ensures { IfOk result (λ made. made ≡ before ++ arc_value item ∷ behind) }
+// What a part has become: two where it was full, else the second is blank.
+#[derive(Drop)]
+struct Made<T: Ranked> {
+    first: Part<T>,
+    second: Part<T>,
+}
+
+impl<T: Ranked> Made<T> {
+    fn one(part: Part<T>) -> Made<T>
+        ensures first { result.first ≡ part }
+        ensures second { result.second.0 ≡ [] }
+    {
+        Made {
+            first: part,
+            second: Part::blank(),
+        }
+    }
+
+    // How many places it takes in a page.
+    fn places(&self) -> usize
+        ensures { result ≤ 2 }
+    {
+        if self.second.len == 0 { 1 } else { 2 }
+    }
+}
+
+// A part among others, and a place in it.
+#[derive(Drop)]
+struct Spot<'a, T: Ranked> {
+    before: &'a [Part<T>],
+    part: &'a Part<T>,
+    behind: &'a [Part<T>],
+    index: usize,
+}
+
+// Where the item at a place stands; None past the last.
+#[tactic(auto, using(crate::proofs::Parts::len_step, crate::proofs::Parts::len_split, crate::proofs::Parts::split_at, crate::proofs::Parts::len_all, crate::proofs::Parts::none_left))]
+fn find<T: Ranked>(parts: &[Part<T>], index: usize) -> Option<Spot<'_, T>>
+    ensures split { IfSome result (λ s. parts.now ≡ s.before.now ++ s.part.now ∷ s.behind.now) }
+    ensures within { IfSome result (λ s. s.index < length s.part.now.0) }
+    ensures at { IfSome result (λ s. length (flatten s.before.now) + s.index ≡ index) }
+    ensures none { IfNone result (length (flatten parts.now) ≤ index) }
 {
-    let middle = before.count();
-    let Some(sides) = middle.checked_add(behind.count()) else {
-        return Err(Memory);
-    };
-    let Some(len) = sides.checked_add(1) else {
-        return Err(Memory);
-    };
-    let page = Page {
-        len,
-        middle,
-        before,
-        item,
-        behind,
-    };
-    Ok(Pages {
-        top: Some(Arc::new(alloc, page)?),
+    let mut left = index;
+    for i in 0..parts.len() {
+        let (before, rest) = parts.split_at(i);
+        let Some((part, behind)) = rest.split_first() else {
+            unreachable!();
+        };
+        let len = part.len();
+        if left < len {
+            return Some(Spot {
+                before,
+                part,
+                behind,
+                index: left,
+            });
+        }
+        left -= len;
+    }
+    None
+}
+
+// How many items are in parts.
+fn count<T: Ranked>(parts: &[Part<T>]) -> usize
+    requires { length (flatten parts.now) < 18446744073709551616 }
+    ensures { result ≡ length (flatten parts.now) }
+{
+    let mut count = 0;
+    let mut rest = parts;
+    while let Some((part, behind)) = rest.split_first() {
+        count += part.len();
+        rest = behind;
+    }
+    count
+}
+
+// The first item of parts.
+fn first_of<T: Ranked>(parts: &[Part<T>]) -> Option<&T>
+    requires { AreFilled parts.now }
+    ensures { option_copied result ≡ slice_get (flatten parts.now) 0 }
+{
+    match parts.first() {
+        Some(part) => part.at(0),
+        None => None,
+    }
+}
+
+// Which part to go into for the first item that fails a test: the last one whose first item passes it, or the first part.
+fn entry<T: Ranked, F: Predicate<T>>(parts: &[Part<T>], predicate: &F, pivot: u64) -> usize
+    requires some { 0 < length parts.now }
+    requires filled { AreFilled parts.now }
+    requires pivot { pivot ≡ F.pivot predicate.now }
+    ensures within { result < length parts.now }
+    ensures passing { 0 < result → Begins (F.test predicate.now) true (flatten (drop result parts.now)) }
+    ensures failing { Begins (F.test predicate.now) false (flatten (drop (result + 1) parts.now)) }
+{
+    for next in 1..parts.len() {
+        if !parts[next].begins_passing(predicate, pivot) {
+            return next - 1;
+        }
+    }
+    parts.len() - 1
+}
+
+impl<T: Ranked> Part<T> {
+    fn blank() -> Part<T>
+        ensures { result.0 ≡ [] }
+    {
+        Part {
+            rank: 0,
+            len: 0,
+            item: None,
+            page: None,
+        }
+    }
+
+    fn of_item(item: Arc<T>) -> Part<T>
+        ensures { result.0 ≡ arc_value item ∷ [] }
+    {
+        Part {
+            rank: item.rank(),
+            len: 1,
+            item: Some(item),
+            page: None,
+        }
+    }
+
+    fn len(&self) -> usize
+        ensures { result ≡ length self.now.0 }
+    {
+        self.len
+    }
+
+    #[tactic(auto, using(crate::proofs::Parts::get_split, crate::proofs::Parts::below_split))]
+    fn at(&self, index: usize) -> Option<&T>
+        ensures { option_copied result ≡ slice_get self.now.0 index }
+    {
+        match &self.page {
+            Some(page) => {
+                let page: &Page<T> = page;
+                match find(page.parts(), index) {
+                    Some(spot) => spot.part.at(spot.index),
+                    None => None,
+                }
+            }
+            None => match &self.item {
+                Some(item) if index == 0 => Some(item),
+                _ => None,
+            },
+        }
+    }
+
+    // Whether the first item passes a test. Where the rank tells, no item is looked at.
+    fn begins_passing<F: Predicate<T>>(&self, predicate: &F, pivot: u64) -> bool
+        requires { pivot ≡ F.pivot predicate.now }
+        ensures { MatchOption (slice_get self.now.0 0) (result ≡ true) (λ x. result ≡ F.test predicate.now x) }
+    {
+        if self.len == 0 {
+            return true;
+        }
+        if self.rank != pivot {
+            return self.rank < pivot;
+        }
+        match self.at(0) {
+            Some(item) => predicate.passes(item),
+            None => true,
+        }
+    }
+
+    #[tactic(auto, using(crate::proofs::Parts::none_left, crate::proofs::Turns::below_at, crate::proofs::Turns::some_parts))]
+    fn first_failing<F: Predicate<T>>(&self, predicate: &F, pivot: u64) -> (usize, Option<&T>)
+        requires { pivot ≡ F.pivot predicate.now }
+        ensures within { result.0 ≤ length self.now.0 }
+        ensures point { IsPartitioned (F.test predicate.now) self.now.0 → IsPartitionPoint (F.test predicate.now) self.now.0 result.0 }
+        ensures item { option_copied result.1 ≡ slice_get self.now.0 result.0 }
+    {
+        if self.len == 0 {
+            return (0, None);
+        }
+        match &self.page {
+            Some(page) => {
+                let page: &Page<T> = page;
+                let parts = page.parts();
+                let (before, rest) = parts.split_at(entry(parts, predicate, pivot));
+                let Some((part, behind)) = rest.split_first() else {
+                    unreachable!();
+                };
+                let (within, item) = part.first_failing(predicate, pivot);
+                let place = count(before) + within;
+                match item {
+                    Some(item) => (place, Some(item)),
+                    None => (place, first_of(behind)),
+                }
+            }
+            None => match &self.item {
+                Some(item) => {
+                    if self.begins_passing(predicate, pivot) {
+                        (1, None)
+                    } else {
+                        (0, Some(item))
+                    }
+                }
+                None => (0, None),
+            },
+        }
+    }
+}
+
+impl<T: Drop + Ranked> Part<T> {
+    fn of_page(alloc: Global, page: Page<T>) -> Result<Part<T>, Memory>
+        ensures { IfOk result (λ made. made.0 ≡ page.0) }
+    {
+        Ok(Part {
+            rank: page.rank,
+            len: page.len,
+            item: None,
+            page: Some(Arc::new(alloc, page)?),
+        })
+    }
+
+    fn share(&self) -> Result<Part<T>, Memory>
+        ensures { IfOk result (λ made. made.0 ≡ self.now.0) }
+    {
+        let item = match &self.item {
+            Some(item) => Some(Arc::try_clone(item)?),
+            None => None,
+        };
+        let page = match &self.page {
+            Some(page) => Some(Arc::try_clone(page)?),
+            None => None,
+        };
+        Ok(Part {
+            rank: self.rank,
+            len: self.len,
+            item,
+            page,
+        })
+    }
+
+    #[tactic(auto, using(crate::proofs::Parts::below_split))]
+    fn inserted(&self, alloc: Global, index: usize, item: Part<T>) -> Result<Made<T>, Memory>
+        ensures { IfOk result (λ made. (x : T) → item.0 ≡ x ∷ [] → made.first.0 ++ made.second.0 ≡ insert self.now.0 index x) }
+    {
+        let Some(page) = &self.page else {
+            return self.paired(index, item);
+        };
+        let page: &Page<T> = page;
+        let last = index.saturating_sub(1);
+        match find(page.parts(), last) {
+            Some(spot) => {
+                let made = spot
+                    .part
+                    .inserted(alloc, spot.index + (index - last), item)?;
+                let parts = parted(alloc, spot.before, made, spot.behind)?;
+                Ok(parts)
+            }
+            None => Ok(Made {
+                first: self.share()?,
+                second: item,
+            }),
+        }
+    }
+
+    // A part of no page, with an item beside its own.
+    fn paired(&self, index: usize, item: Part<T>) -> Result<Made<T>, Memory>
+        requires { length self.now.0 ≤ 1 }
+        ensures { IfOk result (λ made. (x : T) → item.0 ≡ x ∷ [] → made.first.0 ++ made.second.0 ≡ insert self.now.0 index x) }
+    {
+        if self.len == 0 {
+            return Ok(Made::one(item));
+        }
+        let own = self.share()?;
+        if index == 0 {
+            Ok(Made {
+                first: item,
+                second: own,
+            })
+        } else {
+            Ok(Made {
+                first: own,
+                second: item,
+            })
+        }
+    }
+
+    #[tactic(auto, using(crate::proofs::Parts::below_split))]
+    fn replaced(&self, alloc: Global, index: usize, item: Part<T>) -> Result<Part<T>, Memory>
+        ensures { IfOk result (λ made. (x : T) → item.0 ≡ x ∷ [] → made.0 ≡ slice_set self.now.0 index x) }
+    {
+        if self.len() <= index {
+            return self.share();
+        }
+        let Some(page) = &self.page else {
+            return Ok(item);
+        };
+        let page: &Page<T> = page;
+        match find(page.parts(), index) {
+            Some(spot) => {
+                let made = spot.part.replaced(alloc, spot.index, item)?;
+                let page = page_of(alloc, spot.before, Made::one(made), spot.behind)?;
+                Ok(page)
+            }
+            None => self.share(),
+        }
+    }
+
+    #[tactic(auto, using(crate::proofs::Parts::below_split))]
+    fn removed(&self, alloc: Global, index: usize) -> Result<Part<T>, Memory>
+        ensures { IfOk result (λ made. made.0 ≡ remove self.now.0 index) }
+    {
+        if self.len() <= index {
+            return self.share();
+        }
+        let Some(page) = &self.page else {
+            return Ok(Part::blank());
+        };
+        let page: &Page<T> = page;
+        match find(page.parts(), index) {
+            Some(spot) => {
+                let made = spot.part.removed(alloc, spot.index)?;
+                let page = page_of(alloc, spot.before, Made::one(made), spot.behind)?;
+                Ok(page)
+            }
+            None => self.share(),
+        }
+    }
+
+    // The same items as low as they may stand: in place of a page of one part, that part.
+    #[tactic(auto, using(crate::proofs::Parts::below_first, crate::proofs::Parts::flatten_one))]
+    fn lowered(&self) -> Result<Part<T>, Memory>
+        ensures { IfOk result (λ made. made.0 ≡ self.now.0) }
+    {
+        let Some(page) = &self.page else {
+            return self.share();
+        };
+        let page: &Page<T> = page;
+        match page.parts().split_first() {
+            Some((part, behind)) if behind.is_empty() => part.lowered(),
+            _ => self.share(),
+        }
+    }
+}
+
+impl<T: Ranked> Page<T> {
+    // The parts, each with an item.
+    #[tactic(auto, using(crate::proofs::Parts::below_most))]
+    fn parts(&self) -> &[Part<T>]
+        ensures items { flatten result.now ≡ self.now.0 }
+        ensures filled { AreFilled result.now }
+        ensures below { AreBelow self.now.1 result.now }
+    {
+        &self.parts[..self.used]
+    }
+
+    fn empty() -> Page<T>
+        ensures { result.0 ≡ [] }
+    {
+        Page {
+            rank: 0,
+            len: 0,
+            used: 0,
+            parts: [
+                Part::blank(),
+                Part::blank(),
+                Part::blank(),
+                Part::blank(),
+                Part::blank(),
+                Part::blank(),
+                Part::blank(),
+                Part::blank(),
+            ],
+        }
+    }
+}
+
+impl<T: Drop + Ranked> Page<T> {
+    // Puts a part at the end; one of no items is left out. More parts than a page holds, and a length past `usize`, are answered as
+    // want of memory, so that no caller owes a bound.
+    fn push(&mut self, part: Part<T>) -> Result<(), Memory>
+        ensures { OnOk result (self.new.0 ≡ self.old.0 ++ part.0) }
+    {
+        if part.len == 0 {
+            return Ok(());
+        }
+        let Some(len) = self.len.checked_add(part.len) else {
+            return Err(Memory);
+        };
+        if self.used >= 8 {
+            return Err(Memory);
+        }
+        self.rank = first_rank(self.len, self.rank, part.rank);
+        self.len = len;
+        self.parts[self.used] = part;
+        self.used += 1;
+        Ok(())
+    }
+
+    // Puts parts at the end, which other pages keep too.
+    fn push_shared(&mut self, parts: &[Part<T>]) -> Result<(), Memory>
+        ensures { OnOk result (self.new.0 ≡ self.old.0 ++ flatten parts.now) }
+    {
+        let mut rest = parts;
+        while let Some((part, behind)) = rest.split_first() {
+            self.push(part.share()?)?;
+            rest = behind;
+        }
+        Ok(())
+    }
+}
+
+// The rank of the first of some items and of more behind them.
+fn first_rank(len: usize, rank: u64, next: u64) -> u64
+    ensures none { len ≡ 0 → result ≡ next }
+    ensures some { 0 < len → result ≡ rank }
+{
+    if len == 0 { next } else { rank }
+}
+
+// A page of parts that other pages keep too, and of what a part between them has become.
+fn page_of<T: Drop + Ranked>(
+    alloc: Global,
+    before: &[Part<T>],
+    made: Made<T>,
+    behind: &[Part<T>],
+) -> Result<Part<T>, Memory>
+    ensures { IfOk result (λ page. page.0 ≡ flatten before.now ++ ((made.first.0 ++ made.second.0) ++ flatten behind.now)) }
+{
+    let mut page = Page::empty();
+    page.push_shared(before)?;
+    page.push(made.first)?;
+    page.push(made.second)?;
+    page.push_shared(behind)?;
+    Part::of_page(alloc, page)
+}
+
+// A page of parts that other pages keep too.
+fn page_of_parts<T: Drop + Ranked>(alloc: Global, parts: &[Part<T>]) -> Result<Part<T>, Memory>
+    ensures { IfOk result (λ page. page.0 ≡ flatten parts.now) }
+{
+    let mut page = Page::empty();
+    page.push_shared(parts)?;
+    Part::of_page(alloc, page)
+}
+
+// A page of what a part has become.
+fn page_of_made<T: Drop + Ranked>(alloc: Global, made: Made<T>) -> Result<Part<T>, Memory>
+    ensures { IfOk result (λ page. page.0 ≡ made.first.0 ++ made.second.0) }
+{
+    let mut page = Page::empty();
+    page.push(made.first)?;
+    page.push(made.second)?;
+    Part::of_page(alloc, page)
+}
+
+// The same as `page_of` in two pages where there are more parts than one holds: in halves, or the last alone where it is new at the end, so that
+// items which come in order fill the pages.
+#[tactic(auto, using(crate::proofs::Parts::flatten_at))]
+fn parted<T: Drop + Ranked>(
+    alloc: Global,
+    before: &[Part<T>],
+    made: Made<T>,
+    behind: &[Part<T>],
+) -> Result<Made<T>, Memory>
+    ensures { IfOk result (λ parts. parts.first.0 ++ parts.second.0 ≡ flatten before.now ++ ((made.first.0 ++ made.second.0) ++ flatten behind.now)) }
+{
+    if before.len() + made.places() + behind.len() <= 8 {
+        return Ok(Made::one(page_of(alloc, before, made, behind)?));
+    }
+    if behind.is_empty() {
+        return Ok(Made {
+            first: page_of(alloc, before, Made::one(made.first), behind)?,
+            second: page_of_made(alloc, Made::one(made.second))?,
+        });
+    }
+    if before.len() >= 4 {
+        let (front, back) = before.split_at(4);
+        return Ok(Made {
+            first: page_of_parts(alloc, front)?,
+            second: page_of(alloc, back, made, behind)?,
+        });
+    }
+    let (front, back) = behind.split_at(3 - before.len());
+    Ok(Made {
+        first: page_of(alloc, before, made, front)?,
+        second: page_of_parts(alloc, back)?,
     })
 }
 
-// A page of what other pages keep too; `page_behind` and `page_before` are given one side of their own.
-fn shared_page<T: Drop>(
-    alloc: Global,
-    before: &Pages<T>,
-    item: &Arc<T>,
-    behind: &Pages<T>,
-) -> Result<Pages<T>, Memory>
-    ensures { IfOk result (λ made. made ≡ before.now ++ arc_value item.now ∷ behind.now) }
+// Parts under one top: pages of eight, as often as it takes. Twenty-two rounds are enough for a length of 64 bits.
+fn gathered<T: Drop + Ranked>(alloc: Global, parts: Vec<Part<T>>) -> Result<Part<T>, Memory>
+    ensures { IfOk result (λ made. made.0 ≡ flatten parts.items) }
 {
-    page_behind(alloc, before.share()?, item, behind)
-}
-
-fn page_behind<T: Drop>(
-    alloc: Global,
-    before: Pages<T>,
-    item: &Arc<T>,
-    behind: &Pages<T>,
-) -> Result<Pages<T>, Memory>
-    ensures { IfOk result (λ made. made ≡ before ++ arc_value item.now ∷ behind.now) }
-{
-    page_of(alloc, before, Arc::try_clone(item)?, behind.share()?)
-}
-
-fn page_before<T: Drop>(
-    alloc: Global,
-    before: &Pages<T>,
-    item: &Arc<T>,
-    behind: Pages<T>,
-) -> Result<Pages<T>, Memory>
-    ensures { IfOk result (λ made. made ≡ before.now ++ arc_value item.now ∷ behind) }
-{
-    page_of(alloc, before.share()?, Arc::try_clone(item)?, behind)
-}
-
-// The same list in pages whose sides are about as long as each other, where one item came or went before the item in the middle.
-fn balanced_behind<T: Drop>(
-    alloc: Global,
-    before: Pages<T>,
-    item: &Arc<T>,
-    behind: &Pages<T>,
-) -> Result<Pages<T>, Memory>
-    ensures { IfOk result (λ made. made ≡ before ++ arc_value item.now ∷ behind.now) }
-{
-    if behind.len() / 3 > before.len() {
-        lean_behind(alloc, &before, item, behind)
-    } else if before.len() / 3 > behind.len() {
-        lean_before(alloc, &before, item, behind)
-    } else {
-        page_behind(alloc, before, item, behind)
+    let mut parts = parts;
+    for _ in 0..22 {
+        if parts.len() <= 1 {
+            break;
+        }
+        parts = in_pages(alloc, parts.as_slice())?;
     }
+    let page = page_of_parts(alloc, parts.as_slice())?;
+    let top = page.lowered()?;
+    Ok(top)
 }
 
-// The same where one came or went behind it.
-fn balanced_before<T: Drop>(
-    alloc: Global,
-    before: &Pages<T>,
-    item: &Arc<T>,
-    behind: Pages<T>,
-) -> Result<Pages<T>, Memory>
-    ensures { IfOk result (λ made. made ≡ before.now ++ arc_value item.now ∷ behind) }
+// Parts in pages of eight.
+fn in_pages<T: Drop + Ranked>(alloc: Global, parts: &[Part<T>]) -> Result<Vec<Part<T>>, Memory>
+    ensures { IfOk result (λ made. flatten made.items ≡ flatten parts.now) }
 {
-    if behind.len() / 3 > before.len() {
-        lean_behind(alloc, before, item, &behind)
-    } else if before.len() / 3 > behind.len() {
-        lean_before(alloc, before, item, &behind)
-    } else {
-        page_before(alloc, before, item, behind)
+    let mut made = Vec::new(alloc);
+    for few in parts.chunks(8) {
+        made.push(page_of_parts(alloc, few)?)?;
     }
-}
-
-// The same list where too much is behind: a single rotation, or a double one where the inner side is the longer one. Rotations borrow
-// all that they turn: an owned part would have to be dropped on each way out.
-fn lean_behind<T: Drop>(
-    alloc: Global,
-    before: &Pages<T>,
-    item: &Arc<T>,
-    behind: &Pages<T>,
-) -> Result<Pages<T>, Memory>
-    ensures { IfOk result (λ made. made ≡ before.now ++ arc_value item.now ∷ behind.now) }
-{
-    let Some(page) = &behind.top else {
-        return shared_page(alloc, before, item, behind);
-    };
-    let page: &Page<T> = page;
-    match &page.before.top {
-        Some(inner) if is_longer(&page.before, &page.behind) => {
-            twice_behind(alloc, before, item, inner, &page.item, &page.behind)
-        }
-        _ => {
-            let side = shared_page(alloc, before, item, &page.before)?;
-            page_behind(alloc, side, &page.item, &page.behind)
-        }
-    }
-}
-
-fn twice_behind<T: Drop>(
-    alloc: Global,
-    before: &Pages<T>,
-    item: &Arc<T>,
-    inner: &Page<T>,
-    next: &Arc<T>,
-    outer: &Pages<T>,
-) -> Result<Pages<T>, Memory>
-    ensures { IfOk result (λ made. made ≡ before.now ++ arc_value item.now ∷ (inner.now ++ arc_value next.now ∷ outer.now)) }
-{
-    let side = shared_page(alloc, before, item, &inner.before)?;
-    let other = shared_page(alloc, &inner.behind, next, outer)?;
-    page_behind(alloc, side, &inner.item, &other)
-}
-
-// The mirror image of `lean_behind`.
-fn lean_before<T: Drop>(
-    alloc: Global,
-    before: &Pages<T>,
-    item: &Arc<T>,
-    behind: &Pages<T>,
-) -> Result<Pages<T>, Memory>
-    ensures { IfOk result (λ made. made ≡ before.now ++ arc_value item.now ∷ behind.now) }
-{
-    let Some(page) = &before.top else {
-        return shared_page(alloc, before, item, behind);
-    };
-    let page: &Page<T> = page;
-    match &page.behind.top {
-        Some(inner) if is_longer(&page.behind, &page.before) => {
-            twice_before(alloc, &page.before, &page.item, inner, item, behind)
-        }
-        _ => {
-            let side = shared_page(alloc, &page.behind, item, behind)?;
-            page_before(alloc, &page.before, &page.item, side)
-        }
-    }
-}
-
-fn twice_before<T: Drop>(
-    alloc: Global,
-    outer: &Pages<T>,
-    next: &Arc<T>,
-    inner: &Page<T>,
-    item: &Arc<T>,
-    behind: &Pages<T>,
-) -> Result<Pages<T>, Memory>
-    ensures { IfOk result (λ made. made ≡ (outer.now ++ arc_value next.now ∷ inner.now) ++ arc_value item.now ∷ behind.now) }
-{
-    let side = shared_page(alloc, outer, next, &inner.before)?;
-    let other = shared_page(alloc, &inner.behind, item, behind)?;
-    page_behind(alloc, side, &inner.item, &other)
-}
-
-// Whether the inner side of a page that leans is so much longer than the outer one that it is to be parted.
-fn is_longer<T>(inner: &Pages<T>, outer: &Pages<T>) -> bool {
-    outer.len() < inner.len() - inner.len() / 2
-}
-
-// The items of one list, and behind them those of another.
-fn joined<T: Drop>(alloc: Global, before: &Pages<T>, behind: &Pages<T>) -> Result<Pages<T>, Memory>
-    ensures { IfOk result (λ made. made ≡ before.now ++ behind.now) }
-{
-    if before.len() > behind.len() {
-        match before.without_last(alloc)? {
-            Some((rest, last)) => balanced_behind(alloc, rest, &last, behind),
-            None => behind.share(),
-        }
-    } else {
-        match behind.without_first(alloc)? {
-            Some((first, rest)) => balanced_before(alloc, before, &first, rest),
-            None => before.share(),
-        }
-    }
-}
-
-// Items in pages: the middle one, between both halves.
-fn spread<T: Drop>(alloc: Global, items: &[Arc<T>]) -> Result<Pages<T>, Memory>
-    ensures { IfOk result (λ made. made ≡ map arc_value items.now) }
-{
-    let (before, rest) = items.split_at(items.len() / 2);
-    match rest.split_first() {
-        None => Ok(Pages::empty()),
-        Some((item, behind)) => {
-            let front = spread(alloc, before)?;
-            let back = spread(alloc, behind)?;
-            page_of(alloc, front, Arc::try_clone(item)?, back)
-        }
-    }
+    Ok(made)
 }

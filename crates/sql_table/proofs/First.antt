@@ -16,6 +16,7 @@ use Rattle.dl_base.specs.declared.value.Value.{Value}
 use Rattle.dl_base.specs.declared.value.Value.TheVariants as values
 use Rattle.dl_pages.specs.Entries.{IsLeast}
 use Rattle.dl_pages.specs.Orders.{link_order}
+use Rattle.dl_pages.proofs.Orders.{link_eq}
 use Rattle.meaning_tables.specs.First.{first_number, has_link}
 use Rattle.meaning_tables.specs.Links.{row_links, cell_links, link_row, same_number}
 use Rattle.meaning_tables.specs.Tables.{Rise, row_of}
@@ -28,7 +29,7 @@ no_marks_past_the_end (c ∷ cs) = refl
 
 -- the same number is an equal one
 pub same-equal : (a b : LinkNo) → same_number a b ≡ is_eq (link_order a b)
-same-equal a b = swap (a.tx == b.tx) (a.k == b.k) (is_eq (nat_cmp a.tx b.tx)) (is_eq (nat_cmp a.k b.k)) (flip a.tx b.tx ∙ sym (eq-cmp a.tx b.tx)) (flip a.k b.k ∙ sym (eq-cmp a.k b.k)) ∙ sym (and-then (nat_cmp a.tx b.tx) (nat_cmp a.k b.k))
+same-equal a b = swap (a.tx == b.tx) (a.k == b.k) (is_eq (nat_cmp a.tx b.tx)) (is_eq (nat_cmp a.k b.k)) (flip a.tx b.tx ∙ sym (eq-cmp a.tx b.tx)) (flip a.k b.k ∙ sym (eq-cmp a.k b.k)) ∙ sym (and-then (nat_cmp a.tx b.tx) (nat_cmp a.k b.k)) ∙ sym (link_eq a b)
   where
     flip : (m n : ℕ) → (m == n) ≡ (n == m)
     flip m n = grind (arith, nat_tests)

@@ -1,9 +1,9 @@
 // Keys that an index has: a value in a key column that is a whole number or a text.
 ghost use Rattle.std.specs.Prelude.{◌≡◌, ◌++◌, [], IfOk, OnOk};
-ghost use Rattle.sql_table.specs.Keys.{cell_keys, key_marks, value_keys};
+ghost use Rattle.sql_table.specs.Keys.{cell_keys, key_marks, rank_of, text_rank, value_keys};
 
 use dl_base::{Column, ColumnRule, List, Memory, Row, Text, Value};
-use dl_pages::{Ordered, Probe};
+use dl_pages::{Ordered, Probe, Ranked};
 use std::cmp::Ordering;
 
 /// A whole number (kind 0) or a text (kind 1).
@@ -14,24 +14,61 @@ pub(crate) struct Key {
     pub text: Text,
 }
 
+impl Ranked for Key {
+    ghost use Rattle.sql_table.specs.Keys.{key_rank};
+
+    ghost rank = { key_rank };
+
+    fn rank(&self) -> u64 {
+        rank_of(self.kind, self.number, self.text.bytes())
+    }
+}
+
 impl Ordered for Key {
-    ghost use Rattle.std.specs.Ordering.{nat_cmp, int_cmp};
     ghost use Rattle.std.proofs.lemmas.Cmp.{then_total, on_total, nat_cmp_total, int_cmp_total, nat_list_cmp_total};
-    ghost use Rattle.sql_table.specs.Keys.{key_order};
+    ghost use Rattle.dl_pages.specs.Orders.{ranked_follows};
+    ghost use Rattle.sql_table.specs.Keys.{key_order, key_rank, plain_key_order};
 
     ghost order = { key_order };
 
     fn order(&self, other: &Key) -> Ordering {
-        match self.kind.cmp(&other.kind) {
-            Ordering::Equal => match self.number.cmp(&other.number) {
-                Ordering::Equal => self.text.bytes().cmp(other.text.bytes()),
+        match self.rank().cmp(&other.rank()) {
+            Ordering::Equal => match self.kind.cmp(&other.kind) {
+                Ordering::Equal => match self.number.cmp(&other.number) {
+                    Ordering::Equal => self.text.bytes().cmp(other.text.bytes()),
+                    unlike => unlike,
+                },
                 unlike => unlike,
             },
             unlike => unlike,
         }
     }
 
-    ghost total = { then_total (on_total (λ a. a.kind) nat_cmp_total) (then_total (on_total (λ a. a.number) int_cmp_total) (on_total (λ a. a.text) nat_list_cmp_total)) };
+    ghost total = { then_total (on_total key_rank nat_cmp_total) (then_total (on_total (λ a. a.kind) nat_cmp_total) (then_total (on_total (λ a. a.number) int_cmp_total) (on_total (λ a. a.text) nat_list_cmp_total))) };
+
+    ghost follows = { ranked_follows key_rank plain_key_order };
+}
+
+// The rank of a key. Whole numbers have themselves, shifted to be unsigned, so entries whose numbers rise lie together.
+fn rank_of(kind: u8, number: i64, text: &[u8]) -> u64
+    ensures { result ≡ rank_of kind number text.now }
+{
+    if kind == 0 {
+        number.cast_unsigned().wrapping_add(1 << 63)
+    } else {
+        text_rank(text)
+    }
+}
+
+// The rank of a text is a hash of its bytes. Texts often begin alike, so their first bytes would tell few of them apart; and an index
+// is asked for equal keys alone, so texts may be in any order.
+fn text_rank(bytes: &[u8]) -> u64
+    ensures { result ≡ text_rank bytes.now }
+{
+    bytes.iter().fold(1u64, |made, byte| {
+        made.wrapping_mul(1_099_511_628_211)
+            .wrapping_add(u64::from(*byte))
+    })
 }
 
 /// A key that is looked for, by a text's bytes.
@@ -59,13 +96,20 @@ impl Probe<Key> for KeyProbe<'_> {
     ghost key = { λ a. record { kind = a.kind; number = a.number; text = a.text.now } };
 
     fn compare(&self, other: &Key) -> Ordering {
-        match other.kind.cmp(&self.kind) {
-            Ordering::Equal => match other.number.cmp(&self.number) {
-                Ordering::Equal => other.text.bytes().cmp(self.text),
+        match other.rank().cmp(&self.rank()) {
+            Ordering::Equal => match other.kind.cmp(&self.kind) {
+                Ordering::Equal => match other.number.cmp(&self.number) {
+                    Ordering::Equal => other.text.bytes().cmp(self.text),
+                    unlike => unlike,
+                },
                 unlike => unlike,
             },
             unlike => unlike,
         }
+    }
+
+    fn rank(&self) -> u64 {
+        rank_of(self.kind, self.number, self.text)
     }
 }
 

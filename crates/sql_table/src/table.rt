@@ -345,6 +345,19 @@ impl Predicate<(u64, Row)> for Below {
     fn passes(&self, item: &(u64, Row)) -> bool {
         item.0 < self.number
     }
+
+    ghost pivot = { λ b. b.number };
+
+    fn pivot(&self) -> u64 {
+        self.number
+    }
+
+    ghost use Rattle.std.proofs.Common.{arith};
+    ghost use Rattle.std.proofs.lemmas.Bool.Decides.{nat_tests};
+
+    ghost low = { λ b r less. Prim.grind (arith, nat_tests) };
+
+    ghost high = { λ b r more. Prim.grind (arith, nat_tests) };
 }
 
 // The parts with one more row at the end.

@@ -14,3 +14,6 @@ loop-i-preserved c = index_next key_order (key_marks c.args.columns.now) c.args.
 
 pub returns : goal.returns
 returns c = grind (arith, common_steps)
+
+pub with_row_keys-requires : goal.with_row_keys-requires
+with_row_keys-requires c = c.loop-i.invariant.sorted

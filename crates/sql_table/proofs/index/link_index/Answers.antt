@@ -15,3 +15,6 @@ loop-i-preserved c = index_next link_order (link_marks c.args.columns.now) c.arg
 
 pub returns : goal.returns
 returns c = grind (arith, common_steps)
+
+pub with_row_links-requires : goal.with_row_links-requires
+with_row_links-requires c = c.loop-i.invariant.sorted

@@ -1,4 +1,4 @@
-use Rattle.std.proofs.Common.{List, sym, ap, ◌∙◌}
+use Rattle.std.proofs.Common.{List, sym, ap, ◌∙◌, refl}
 use Rattle.std.specs.Cmp.Lexicographic.{pointwise}
 use Rattle.std.specs.Ordering.{is_eq}
 use Rattle.std.proofs.lemmas.Result.{IfOk-weaker}
@@ -17,3 +17,9 @@ pub returns : goal.returns
 returns g c =
     let R = g.K.Ordered.order in
     IfOk-weaker c.with_marks.result _ _ (λ made more. other_moved R c.args.before c.args.marks c.args.number c.args.index.now c.in_ok-left.left made c.in_ok-left.ensures more) c.with_marks.ensures
+
+pub same-marks : goal.same-marks
+same-marks g c = refl
+
+pub with_marks-requires : goal.with_marks-requires
+with_marks-requires g c = c.in_ok-left.ensures.sorted

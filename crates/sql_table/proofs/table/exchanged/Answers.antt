@@ -10,3 +10,12 @@ returns-clause-kept c =
     kept_replaced c.args.columns.now c.args.next c.args.number c.args.rows.now c.in_ok-rows.rows c.args.links.now c.in_ok-links.links c.args.keys.now c.in_ok-keys.keys c.item.result.now.1 c.args.row
     (link_marks c.args.columns.now c.item.result.now.1) (link_marks c.args.columns.now c.args.row) (key_marks c.args.columns.now c.item.result.now.1) (key_marks c.args.columns.now c.args.row)
     c.requires.kept (c.requires.at.found ∙ ap (option_map (λ r. r.1)) c.item.ensures) refl refl c.in_ok-links.ensures refl refl c.in_ok-keys.ensures c.in_ok-rows.ensures
+
+pub same-links : goal.same-links
+same-links c = refl
+
+pub same-keys : goal.same-keys
+same-keys c = refl
+
+pub swapped-requires : goal.swapped-requires
+swapped-requires c = c.requires.at

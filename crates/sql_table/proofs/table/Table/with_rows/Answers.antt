@@ -1,4 +1,4 @@
-use Rattle.std.proofs.Common.{arith}
+use Rattle.std.proofs.Common.{arith, refl}
 use Rattle.std.proofs.lemmas.Grind.{common_steps}
 use Rattle.sql_table.proofs.table.Table.with_rows.Goals as goal
 
@@ -13,3 +13,15 @@ returns c = grind (arith, common_steps)
 
 pub link_index-requires : goal.link_index-requires
 link_index-requires c = grind (arith, common_steps)
+
+pub same-columns : goal.same-columns
+same-columns c = refl
+
+pub same-rows : goal.same-rows
+same-rows c = refl
+
+pub same-links : goal.same-links
+same-links c = refl
+
+pub same-keys : goal.same-keys
+same-keys c = refl
