@@ -19,8 +19,8 @@ CONTENT = 100
 
 
 def surroundings():
-    """The environment in which `bin/datalinks` starts the program: it asks for large pages of memory."""
-    return {"GLIBC_TUNABLES": "glibc.malloc.hugetlb=1", **os.environ}
+    """The environment in which `bin/datalinks` starts the program: what it asks of the C library."""
+    return {"GLIBC_TUNABLES": "glibc.malloc.hugetlb=1:glibc.malloc.tcache_count=127", **os.environ}
 
 
 def script(lines):

@@ -11,9 +11,9 @@ pages of memory that `bin/datalinks` asks for. An answer that is not the right o
 along; its time is that of handing it the same statements one by one and taking their rows.
 
 Printed are: INSERTs of a row each into a table with a key, 10,000 and 20,000 of them; UPDATE, DELETE and SELECT by key over 1,000 and
-over 100,000 rows, for one statement, of keys far apart, and UPDATE of one key after the other too; joins by a key; a join of three
-tables of 200 rows; a COUNT over 10,000,000 combined rows and GROUP BY over as many, with the peak of memory; SELECTs that look at all
-rows, ORDER BY and GROUP BY; and how many bytes a row takes.
+over 100,000 rows, for one statement, of keys far apart, UPDATE of one key after the other too, and SELECT by keys that are texts; joins
+by a key; a join of three tables of 200 rows; a COUNT over 10,000,000 combined rows and GROUP BY over as many, with the peak of memory;
+SELECTs that look at all rows, ORDER BY and GROUP BY; and how many bytes a row takes.
 
 With a word, only the kinds whose name has it are measured.
 """
@@ -80,6 +80,17 @@ def deletes(rows):
 
 def selects(rows):
     return by_key("SELECT v, s FROM t WHERE id = %d", "rows 1", rows, 20_000)
+
+
+def selects_by_text(rows):
+    """By a key that is a text; all of them begin alike."""
+    made = [("CREATE TABLE t (name VARCHAR(40) PRIMARY KEY, v INTEGER)", "ok")]
+    for first in range(0, rows, TUPLES):
+        last = min(first + TUPLES, rows)
+        tuples = ", ".join("('archive/film/%08d.mov', %d)" % (i, i) for i in range(first, last))
+        made.append(("INSERT INTO t VALUES " + tuples, "ok %d" % (last - first)))
+    keys = [i * 7919 % rows for i in range(20_000)]
+    return made, [("SELECT v FROM t WHERE name = 'archive/film/%08d.mov'" % key, "rows 1") for key in keys]
 
 
 def join(rows, others):
@@ -268,6 +279,7 @@ KINDS = {
     "UPDATE by key, in order": lambda: grown("an UPDATE by key, in the order of the keys,", updates_in_order, 1_000, 100_000),
     "DELETE by key": lambda: grown("a DELETE by key", deletes, 1_000, 100_000),
     "SELECT by key": lambda: grown("a SELECT by key", selects, 1_000, 100_000),
+    "SELECT by a text": lambda: grown("a SELECT by a key that is a text", selects_by_text, 1_000, 100_000),
     "join by key": lambda: one("a join by key of 10,000 rows with 1,000", join(10_000, 1_000)),
     "three-way join by key": lambda: one("20 joins by key of three tables of 200 rows", three(200)),
     "three-way join": lambda: one("a join of three tables of 200 rows by columns that are no keys", three_by_other_columns(200)),
