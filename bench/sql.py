@@ -1,14 +1,14 @@
 #!/usr/bin/env python3
 """Time of statements of SQL over tables in memory, beside SQLite in memory on the same statements in the same run.
 
-What is timed is the built program of `crates/sql_shell`, which reads statements from a file, a line each, and tells their answers. How far
-it has read is looked at all the while, so neither what comes before the statements that are measured nor the end of the program is in
+What is timed is the built program of `crates/sql_shell`, which reads statements from a file, a line each, and tells their answers. How
+far it has read is looked at all the while, so neither what comes before the statements that are measured nor the end of the program is in
 their time: a comment stands before them and one behind them, in which nothing is done. It is real time, since of another process the
 system tells processor time by ticks of some milliseconds alone, and the best of nine runs, and of as many as begin within two seconds,
 but of no more than begin within six. Of statements by key, here and in SQLite, the best 2,000 in a row count, and runs over few and over
-many rows take turns, since a machine that does other work too is slower at one time than at another. The program runs with the large
-pages of memory that `bin/datalinks` asks for. An answer that is not the right one ends the script. SQLite is the one that Python brings
-along; its time is that of handing it the same statements one by one and taking their rows.
+many rows take turns, since a machine that does other work too is slower at one time than at another. The program runs with what
+`bin/datalinks` asks of the C library. An answer that is not the right one ends the script. SQLite is the one that Python brings along;
+its time is that of handing it the same statements one by one and taking their rows.
 
 Printed are: INSERTs of a row each into a table with a key, 10,000 and 20,000 of them; UPDATE, DELETE and SELECT by key over 1,000 and
 over 100,000 rows, for one statement, of keys far apart, UPDATE of one key after the other too, and SELECT by keys that are texts; joins
