@@ -11,14 +11,15 @@ in SQLite, since a machine that does other work too is slower at one time than a
 tells processor time by ticks of some milliseconds alone.
 SQLite is the one that Python brings along, over a file in the same place, with a write-ahead log that is synced at each commit
 (`journal_mode` WAL, `synchronous` FULL); its time is that of handing it the statements one by one. Each time is the best of some runs,
-those of 1,000 rows, of 100,000 and of SQLite taken in turn. An answer that is not the right one ends the script.
+those of 1,000 rows, of 100,000 and of SQLite taken in turn, and of up to four times as many where a run has few lines. An answer that is not the right one ends the script.
 
-Printed are, for INSERTs and UPDATEs by key that are transactions of their own, and for BEGIN, ten statements and COMMIT: the time of
-one, the ratio of 100,000 rows to 1,000, and the ratio to SQLite's time; from `strace`, what a commit calls beside what it takes of
-memory and the telling of its answer; and what is opened in a second, of a folder whose rows came in few commits and of one with a
-commit for each row. It ends with status 1 where a bound is broken: in memory 100,000 rows cost at most 1.5 times what 1,000 do, a
-commit makes six calls on the area Rows and no other call, and on a disk the time is at most 2.5 times SQLite's. Where there is no
-disk or no `strace`, it says so. On a machine that does other work too, the times on a disk say little.
+Printed are, for INSERTs, and UPDATEs, DELETEs and SELECTs by key, that are transactions of their own, and for BEGIN, ten statements and
+COMMIT: the time of one, the ratio of 100,000 rows to 1,000, and the ratio to SQLite's time; from `strace`, what a commit calls beside
+what it takes of memory and the telling of its answer; and what is opened in a second, of a folder whose rows came in few commits and of
+one with a commit for each row. It ends with status 1 where a bound is broken: in memory 100,000 rows cost at most 1.5 times what 1,000
+do, a commit makes six calls on the area Rows and no other call, a SELECT makes none, and on a disk the time of what commits is at most
+2.5 times SQLite's. Where there is no disk or no `strace`, it says so. On a machine that does other work too, the times on a disk say
+little.
 """
 import argparse
 import collections
@@ -103,6 +104,13 @@ def fits(told, wanted):
     return told.startswith(wanted[:-2]) if wanted.endswith("..") else told == wanted
 
 
+def done_of(told):
+    """The number of the line that was told last, from the whole lines of what was told, with their rows: `12: ok 1`, `13| 5 | 'x'`."""
+    end = told.rfind(b"\n")
+    head = re.match(rb"\d+", told[told.rfind(b"\n", 0, max(end, 0)) + 1:end])
+    return int(head.group()) if head else 0
+
+
 def processor_of(pid):
     """The processor time of a process so far, in seconds: of its own clock, whose number Linux makes of the process's."""
     return time.clock_gettime((~pid << 3) | 2)
@@ -129,7 +137,7 @@ class Run:
             os.close(write)
             # The first answer came behind the last look that found none, so no time is told too short.
             empty = first = last = start, 0
-            self.peak, count, looks = 0, 0, []
+            self.peak, looks = 0, []
             while True:
                 look = time.monotonic(), processor_of(child.pid)
                 try:
@@ -144,8 +152,7 @@ class Run:
                 if not told:
                     first, self.peak = last, peak_so_far(child.pid)
                 told += part
-                count += part.count(b"\n")
-                looks.append((count, last[0]))
+                looks.append((done_of(told), last[0]))
             child.wait()
             os.close(read)
         self.told = told.decode().splitlines()
@@ -232,12 +239,28 @@ def update(i, rows):
     return "UPDATE t SET v = v + 1 WHERE id = %d" % key(i, rows), "ok 1"
 
 
+def delete(i, rows):
+    return "DELETE FROM t WHERE id = %d" % key(i, rows), "ok 1"
+
+
+def select(i, rows):
+    return "SELECT v, s FROM t WHERE id = %d" % key(i, rows), "rows 1"
+
+
 def inserts(count, rows):
     return [insert(i, rows) for i in range(count)]
 
 
 def updates(count, rows):
     return [update(i, rows) for i in range(count)]
+
+
+def deletes(count, rows):
+    return [delete(i, rows) for i in range(count)]
+
+
+def selects(count, rows):
+    return [select(i, rows) for i in range(count)]
 
 
 def tens(count, rows):
@@ -250,18 +273,20 @@ def tens(count, rows):
     return made
 
 
-# What is made so many times, and how many rows one puts in.
+# What is made so many times, and how many rows one puts in or removes.
 KINDS = {
     "an INSERT": (inserts, 1),
     "an UPDATE by key": (updates, 0),
+    "a DELETE by key": (deletes, 1),
+    "a SELECT by key": (selects, 0),
     "BEGIN, ten statements and COMMIT": (tens, 5),
 }
 
 
 def count_for(name, most, rows):
-    """How many are made over so many rows, so that a table grows by half at most."""
-    put = KINDS[name][1]
-    return min(most, rows // 2 // put) if put else most
+    """How many are made over so many rows, so that a table grows or shrinks by half at most."""
+    changed = KINDS[name][1]
+    return min(most, rows // 2 // changed) if changed else most
 
 
 def in_session(statements):
@@ -320,13 +345,15 @@ def compared(words, place, counts, folders, bases):
         in_a_row = len(statements[words.few]) if is_disk(place) else IN_A_ROW
         costs = {rows: Cost(words.program, folders[rows], place, in_session(made), in_a_row) for rows, made in statements.items()}
         best = collections.defaultdict(lambda: float("inf"))
-        for _ in range(words.runs):
+        # Where a run has few of them there are more runs.
+        for _ in range(words.runs * max(1, min(4, counts[name] // count))):
             for rows, made in statements.items():
                 best["here", rows] = costs[rows].round().seconds() / count
                 best["SQLite", rows] = min(best["SQLite", rows], seconds_of_sqlite(bases[rows], place, made, in_a_row) / count)
         for rows in (words.few, words.many):
             ratio = best["here", rows] / best["SQLite", rows]
-            shown = judge("%s over %d rows on a disk, to SQLite's time" % (name, rows), ratio, OF_SQLITE) if is_disk(place) else "%.2f times" % ratio
+            judged = is_disk(place) and make is not selects
+            shown = judge("%s over %d rows on a disk, to SQLite's time" % (name, rows), ratio, OF_SQLITE) if judged else "%.2f times" % ratio
             print("  %s over %d rows: %.1f us, SQLite %.1f us, %s SQLite's time" % (name, rows, best["here", rows] * 1e6, best["SQLite", rows] * 1e6, shown), flush=True)
         grown = best["here", words.many] / best["here", words.few]
         theirs = best["SQLite", words.many] / best["SQLite", words.few]
@@ -365,7 +392,8 @@ def traced(program, folder, lines):
 
 
 def commits(words, folder):
-    """What a commit calls: of INSERTs and UPDATEs by key of their own, and of COMMIT behind ten statements, which call nothing."""
+    """What a commit calls: of INSERTs, and UPDATEs and DELETEs by key, of their own, and of COMMIT behind ten statements, which call nothing;
+    nor does a SELECT."""
     for name, (make, _) in KINDS.items():
         count = count_for(name, words.traced, words.few)
         statements = in_session(make(count, words.few))
@@ -378,10 +406,10 @@ def commits(words, folder):
         ends = [calls for (text, _), calls in zip(statements, told[1:]) if make is not tens or text == "A: COMMIT"]
         others = [calls for (text, _), calls in zip(statements, told[1:]) if make is tens and text != "A: COMMIT" and calls]
         seen = collections.Counter(" ".join("%s %s" % call[:2] for call in calls) for calls in ends)
-        right = [("%s rows" % word) for word in COMMIT]
-        shown = require("what a commit calls, %s" % name, set(seen) == {" ".join(right)} and not others, "not six calls on Rows and no other")
+        right = [("%s rows" % word) for word in COMMIT if make is not selects]
+        shown = require("what %s calls" % name, set(seen) == {" ".join(right)} and not others, "not %d calls on Rows and no other" % len(right))
         for calls, times in seen.most_common(5):
-            print("  %d of %d commits: %d calls (%s)%s" % (times, len(ends), len(calls.split()) // 2, calls, shown), flush=True)
+            print("  %s, %d of %d: %d calls (%s)%s" % (name, times, len(ends), len(calls.split()) // 2, calls, shown), flush=True)
         if others:
             print("  %d statements inside of a transaction call something, as %s%s" % (len(others), others[0], shown), flush=True)
 
@@ -428,10 +456,10 @@ def main():
         print("what a commit calls:", flush=True)
         commits(words, folders[words.few])
         print("in memory:", flush=True)
-        compared(words, in_memory(), {"an INSERT": 10_000, "an UPDATE by key": 10_000, "BEGIN, ten statements and COMMIT": 1_000}, folders, bases)
+        compared(words, in_memory(), {"an INSERT": 10_000, "an UPDATE by key": 10_000, "a DELETE by key": 10_000, "a SELECT by key": 10_000, "BEGIN, ten statements and COMMIT": 1_000}, folders, bases)
         if is_disk(words.disk):
             print("on a disk (%s):" % kind_of(words.disk), flush=True)
-            compared(words, words.disk, {"an INSERT": 300, "an UPDATE by key": 300, "BEGIN, ten statements and COMMIT": 100}, folders, bases)
+            compared(words, words.disk, {"an INSERT": 300, "an UPDATE by key": 300, "a DELETE by key": 300, "a SELECT by key": 300, "BEGIN, ten statements and COMMIT": 100}, folders, bases)
         else:
             print("nothing was measured on a disk: %s is %s" % (words.disk, kind_of(words.disk)), flush=True)
         print("opening, in memory:", flush=True)

@@ -4,6 +4,7 @@ use Rattle.std.specs.List.{slice_get, slice_set, insert, remove}
 use Rattle.std.proofs.lemmas.List.{append-nil, set-append_left, set-append_right}
 use Rattle.std.proofs.lemmas.List.Edits.{insert-append_left, insert-append_right, remove-append_left, remove-append_right}
 use Rattle.dl_pages.specs.Listing.{flatten, AreFilled, AreBelow, HasRank}
+use Rattle.dl_pages.proofs.Places.{get_left, get_right}
 use denote.Param.Weighed.{most}
 
 module _ {T : Type 0} where
@@ -14,18 +15,8 @@ module _ {T : Type 0} where
   pub flatten_split : (ps before behind : List (List T × ℕ)) (p : List T × ℕ) → ps ≡ before ++ p ∷ behind → flatten ps ≡ flatten before ++ (p.0 ++ flatten behind)
   flatten_split ps before behind p is = ap flatten is ∙ flatten-append before (p ∷ behind)
 
-  get-left : (xs ys : List T) (i : ℕ) → i < length xs → slice_get (xs ++ ys) i ≡ slice_get xs i
-  get-left [] ys i within = absurd (omega arith)
-  get-left (x ∷ xs) ys zero within = refl
-  get-left (x ∷ xs) ys (suc i) within = get-left xs ys i (omega arith)
-
-  get-right : (xs ys : List T) (k i : ℕ) → length xs + k ≡ i → slice_get (xs ++ ys) i ≡ slice_get ys k
-  get-right [] ys k i is = ap (slice_get ys) (omega arith)
-  get-right (x ∷ xs) ys k zero is = absurd (omega arith)
-  get-right (x ∷ xs) ys k (suc i) is = get-right xs ys k i (omega arith)
-
   pub get_split : (ps before behind : List (List T × ℕ)) (p : List T × ℕ) (i k : ℕ) → ps ≡ before ++ p ∷ behind → length (flatten before) + k ≡ i → k < length p.0 → slice_get (flatten ps) i ≡ slice_get p.0 k
-  get_split ps before behind p i k is at within = ap (λ l. slice_get l i) (flatten_split ps before behind p is) ∙ get-right (flatten before) (p.0 ++ flatten behind) k i at ∙ get-left p.0 (flatten behind) k within
+  get_split ps before behind p i k is at within = ap (λ l. slice_get l i) (flatten_split ps before behind p is) ∙ get_right (flatten before) (p.0 ++ flatten behind) k i at ∙ get_left p.0 (flatten behind) k within
 
   set-right : (xs ys : List T) (x : T) (k i : ℕ) → length xs + k ≡ i → slice_set (xs ++ ys) i x ≡ xs ++ slice_set ys k x
   set-right xs ys x k i is = set-append_right xs ys (length xs) i x refl (omega arith) ∙ ap (λ j. xs ++ slice_set ys j x) {x = i - length xs} {y = k} (omega arith)
@@ -111,7 +102,7 @@ module _ {T : Type 0} where
   filled_push (q ∷ ps) p filled full = (filled.0, filled_push ps p filled.1 full)
 
   -- what stays true of a page as a part is put at its end
-  pub push_kept : (rank : T → ℕ) (n r next first len : ℕ) (ps : List (List T × ℕ)) (p : List T × ℕ) → n < length ps → n < 8 → len ≡ length (flatten (take n ps)) + length p.0 → 0 < length p.0 → HasRank rank r (flatten (take n ps)) → HasRank rank next p.0 → AreFilled (take n ps) → (length (flatten (take n ps)) ≡ 0 → first ≡ next) → (0 < length (flatten (take n ps)) → first ≡ r) → (n + 1 ≤ 8) × (len ≡ length (flatten (take (n + 1) (slice_set ps n p)))) × HasRank rank first (flatten (take (n + 1) (slice_set ps n p))) × AreFilled (take (n + 1) (slice_set ps n p))
+  pub push_kept : (rank : T → ℕ) (n r next first len : ℕ) (ps : List (List T × ℕ)) (p : List T × ℕ) → n < length ps → n < 4 → len ≡ length (flatten (take n ps)) + length p.0 → 0 < length p.0 → HasRank rank r (flatten (take n ps)) → HasRank rank next p.0 → AreFilled (take n ps) → (length (flatten (take n ps)) ≡ 0 → first ≡ next) → (0 < length (flatten (take n ps)) → first ≡ r) → (n + 1 ≤ 4) × (len ≡ length (flatten (take (n + 1) (slice_set ps n p)))) × HasRank rank first (flatten (take (n + 1) (slice_set ps n p))) × AreFilled (take (n + 1) (slice_set ps n p))
   push_kept rank n r next first len ps p within few total some is follows filled none else_ = rw (take_set n ps p within, flatten_push (take n ps) p) (omega (arith, few), total ∙ sym (length-append (flatten (take n ps)) p.0), ranked (flatten (take n ps)) is none else_, filled_push (take n ps) p filled some)
     where
       ranked : (xs : List T) → HasRank rank r xs → (length xs ≡ 0 → first ≡ next) → (0 < length xs → first ≡ r) → HasRank rank first (xs ++ p.0)

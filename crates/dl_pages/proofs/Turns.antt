@@ -6,6 +6,7 @@ use Rattle.std.proofs.lemmas.List.Folds.{list_any-append, list_all-append}
 use Rattle.dl_pages.specs.Listing.{flatten, AreFilled, AreBelow, Begins}
 use Rattle.dl_pages.specs.Points.{IsPartitioned, IsPartitionPoint}
 use Rattle.dl_pages.proofs.Parts.{flatten_split, split_at, below_split, get_split}
+use Rattle.dl_pages.proofs.Places.{get_right, none_past, some_within}
 
 module _ {T : Type 0} where
   pub some_parts : (ps : List (List T × ℕ)) → 0 < length (flatten ps) → 0 < length ps
@@ -40,28 +41,13 @@ module _ {T : Type 0} where
   pub len_three : (n k : ℕ) (ps behind : List (List T × ℕ)) (p : List T × ℕ) → drop n ps ≡ p ∷ behind → k ≤ length p.0 → length (flatten (take n ps)) + k ≤ length (flatten ps)
   len_three n k ps behind p is within = omega (arith, within, ap length (in_three n ps behind p is), length-append (flatten (take n ps)) (p.0 ++ flatten behind), length-append p.0 (flatten behind))
 
-  none-past : (xs : List T) (k : ℕ) → slice_get xs k ≡ None → length xs ≤ k
-  none-past [] k is = omega arith
-  none-past (x ∷ xs) zero is = cc is
-  none-past (x ∷ xs) (suc k) is = omega (arith, none-past xs k is)
-
-  some-within : (xs : List T) (k : ℕ) (x : T) → slice_get xs k ≡ Some x → k < length xs
-  some-within [] k x is = cc is
-  some-within (y ∷ xs) zero x is = omega arith
-  some-within (y ∷ xs) (suc k) x is = omega (arith, some-within xs k x is)
-
-  get-past : (xs ys : List T) (k i : ℕ) → length xs + k ≡ i → slice_get (xs ++ ys) i ≡ slice_get ys k
-  get-past [] ys k i is = ap (slice_get ys) (omega arith)
-  get-past (x ∷ xs) ys k zero is = absurd (omega arith)
-  get-past (x ∷ xs) ys k (suc i) is = get-past xs ys k i (omega arith)
-
   -- the item at a place in a part, among all
   pub item_within : (n k i : ℕ) (ps behind : List (List T × ℕ)) (p : List T × ℕ) (x : T) → drop n ps ≡ p ∷ behind → length (flatten (take n ps)) + k ≡ i → slice_get p.0 k ≡ Some x → slice_get (flatten ps) i ≡ Some x
-  item_within n k i ps behind p x is at has = get_split ps (take n ps) behind p i k (split_at n ps behind p is) at (some-within p.0 k x has) ∙ has
+  item_within n k i ps behind p x is at has = get_split ps (take n ps) behind p i k (split_at n ps behind p is) at (some_within p.0 k x has) ∙ has
 
   -- the item past the end of a part is the first of those behind it
   pub item_past : (n k i : ℕ) (ps behind : List (List T × ℕ)) (p : List T × ℕ) → drop n ps ≡ p ∷ behind → length (flatten (take n ps)) + k ≡ i → k ≤ length p.0 → slice_get p.0 k ≡ None → slice_get (flatten ps) i ≡ slice_get (flatten behind) 0
-  item_past n k i ps behind p is at within none = ap (λ l. slice_get l i) (in_three n ps behind p is) ∙ get-past (flatten (take n ps)) (p.0 ++ flatten behind) k i at ∙ get-past p.0 (flatten behind) 0 k (omega (arith, within, none-past p.0 k none))
+  item_past n k i ps behind p is at within none = ap (λ l. slice_get l i) (in_three n ps behind p is) ∙ get_right (flatten (take n ps)) (p.0 ++ flatten behind) k i at ∙ get_right p.0 (flatten behind) 0 k (omega (arith, within, none_past p.0 k none))
 
   -- the first item of parts is that of the first of them
   pub first_item : (ps : List (List T × ℕ)) (p : List T × ℕ) → AreFilled ps → Some p ≡ slice_get ps 0 → slice_get (flatten ps) 0 ≡ slice_get p.0 0

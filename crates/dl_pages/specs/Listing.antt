@@ -1,23 +1,18 @@
 -- What pages are seen as: the list of their items, beside how high they stand.
-use Rattle.std.specs.Prelude.{◌≡◌, ℕ, ◌+◌, ◌<◌, Bool, List, [], ◌∷◌, ◌++◌, length, Option, Some, None}
-use Rattle.std.specs.declared.sync.Arc.{Arc}
-use Rattle.std.specs.declared.alloc.Global.{Global}
+use Rattle.std.specs.Prelude.{◌≡◌, ℕ, ◌+◌, ◌<◌, Bool, List, [], ◌∷◌, ◌++◌, length}
+use Rattle.dl_pages.specs.declared.pages.Below.{Below}
+use Rattle.dl_pages.specs.declared.pages.Below.TheVariants as below
 
 -- the items of parts, one part after another
 abbrev pub flatten : {T : Type 0} → List (List T × ℕ) → List T
 flatten [] = []
 flatten (p ∷ ps) = p.0 ++ flatten ps
 
--- the items of a part: those of a page, or one, or none
-abbrev pub items_of : {T : Type 0} → Option (Arc T Global) → Option (Arc (List T × ℕ) Global) → List T
-items_of item (Some page) = page.value.0
-items_of (Some x) None = x.value ∷ []
-items_of None None = []
-
--- how high a part stands over items
-abbrev pub height_of : {T : Type 0} → Option (Arc (List T × ℕ) Global) → ℕ
-height_of (Some page) = page.value.1 + 1
-height_of None = 0
+-- what a part is seen as: the items of a page, or of a leaf, or none, and how high it stands over leaves
+abbrev pub seen : {T : Type 0} → Below (List T) (List T × ℕ) → List T × ℕ
+seen below.Nothing = ([], 0)
+seen (below.Leaf leaf) = (leaf.value, 0)
+seen (below.Page page) = (page.value.0, page.value.1 + 1)
 
 -- a number is the rank of the first of these items
 abbrev pub HasRank : {T : Type 0} → (T → ℕ) → ℕ → List T → Type 0

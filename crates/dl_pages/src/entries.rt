@@ -75,8 +75,8 @@ fn is_same<K: Ordered, P: Probe<K>>(probe: &P, key: &K) -> bool
     probe.compare(key) == Ordering::Equal
 }
 
-/// The least number under a key; None where the entries have none under it. It takes no memory. The cost grows with the logarithm
-/// of the number of entries.
+/// The least number under a key; None where the entries have none under it. It takes no memory. The cost is that of a search of
+/// `Pages`.
 pub fn least<K: Ordered, P: Probe<K>>(entries: &Pages<(K, u64)>, probe: &P) -> Option<u64>
     ensures { IsStrictlySortedBy (entry_order K.order) entries.now → IsLeast K.order entries.now (P.key probe.now) result }
 {

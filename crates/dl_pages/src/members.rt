@@ -5,10 +5,9 @@ ghost use Rattle.std.specs.List.{slice_get};
 ghost use Rattle.dl_pages.specs.Sets.{WithMember, WithoutMember, is_at};
 
 use crate::{Ordered, Pages, Predicate};
-use dl_base::Memory;
+use dl_base::{Copied, Memory};
 use std::alloc::Global;
 use std::cmp::Ordering;
-use std::sync::Arc;
 
 // The test of what is below an item.
 #[derive(Drop)]
@@ -48,21 +47,25 @@ fn stands<T: Ordered>(items: &Pages<T>, place: usize, item: &T) -> bool
     }
 }
 
-/// The set with one more member; the same set where one equal to it is there. The given set stays. The cost grows with the
-/// logarithm of its size. The error is want of memory.
-pub fn with_member<T: Ordered>(alloc: Global, items: &Pages<T>, item: T) -> Result<Pages<T>, Memory>
+/// The set with one more member; the same set where one equal to it is there. The given set stays. The cost is that of a search and
+/// of a change of `Pages`. The error is want of memory.
+pub fn with_member<T: Copied + Ordered>(
+    alloc: Global,
+    items: &Pages<T>,
+    item: T,
+) -> Result<Pages<T>, Memory>
     ensures { IsStrictlySortedBy T.order items.now → IfOk result (λ made. WithMember T.order items.now made item) }
 {
     let place = items.partition_point(&Under { item: &item });
     if stands(items, place, &item) {
         return items.share();
     }
-    items.inserted(alloc, place, Arc::new(alloc, item)?)
+    items.inserted(alloc, place, item)
 }
 
-/// The set with one member less; the same set where none is equal to it. The given set stays. The cost grows with the logarithm
-/// of its size. The error is want of memory.
-pub fn without_member<T: Ordered>(
+/// The set with one member less; the same set where none is equal to it. The given set stays. The cost is that of a search and of a
+/// change of `Pages`. The error is want of memory.
+pub fn without_member<T: Copied + Ordered>(
     alloc: Global,
     items: &Pages<T>,
     item: &T,

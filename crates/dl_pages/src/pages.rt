@@ -2,9 +2,8 @@
 // the top and shares the others, so a copy costs one count, and want of memory leaves every list as it was.
 ghost use Rattle.std.specs.Prelude.{◌≡◌, ◌↔◌, ℕ, IsTrue, true, false, [], ◌∷◌, ◌++◌, ◌+◌, ◌<◌, ◌≤◌, length, drop, slice_get, slice_set, remove, Some, IfOk, Bool, OnOk, IfSome, IfNone, MatchOption};
 ghost use Rattle.std.specs.List.{insert};
-ghost use Rattle.std.specs.Option.{option_copied};
-ghost use Rattle.std.specs.Arc.{arc_value};
-ghost use Rattle.dl_pages.specs.Listing.{flatten, AreFilled, AreBelow, Begins};
+ghost use Rattle.std.specs.Option.{option_copied, option_to_list};
+ghost use Rattle.dl_pages.specs.Listing.{flatten, HasRank, AreFilled, AreBelow, Begins};
 ghost use Rattle.dl_pages.specs.Points.{IsPartitioned, IsPartitionPoint};
 
 use crate::Ranked;
@@ -15,9 +14,9 @@ use std::sync::Arc;
 
 /// A list whose copies share the pages that they have in common. Contracts see the list.
 ///
-/// It is a tree of pages of up to 8 parts, all of its items equally far from the top. A page that has become empty goes, and pages
-/// that have become small are not joined, so costs grow with the logarithm of the most items that there have been. Contracts don't
-/// say so, since only costs rest on it.
+/// It is a tree of leaves of up to 16 items under pages of up to 4 parts, all leaves equally far from the top. A leaf or a page that
+/// has become empty goes, and those that have become small are not joined: so a walk from the top to a leaf costs the logarithm of
+/// the most items that there have been. Contracts don't say so, since only costs rest on it.
 #[derive(Drop)]
 pub struct Pages<T: Ranked> {
     top: Part<T>,
@@ -31,27 +30,34 @@ impl<T: Ranked> Model for Pages<T> {
     ghost view = { λ p. p.top.0 };
 }
 
-// A page, or an item, or nothing; how many items there are, and the rank of the first. A search reads ranks and counts here, and no
-// page or item that it does not enter.
+// A page, or a leaf, or nothing; how many items there are, and the rank of the first. A search reads ranks and counts here, and no
+// page or leaf that it does not enter.
 #[cycle(pages)]
 #[derive(Drop)]
 struct Part<T: Ranked> {
     rank: u64,
     len: usize,
-    item: Option<Arc<T>>,
-    page: Option<Arc<Page<T>>>,
+    below: Below<List<T>, Page<T>>,
+}
+
+// What a part is: a leaf, or a page, or nothing.
+#[derive(Drop)]
+enum Below<L, P> {
+    Nothing,
+    Leaf(Arc<L>),
+    Page(Arc<P>),
 }
 
 impl<T: Ranked> Model for Part<T> {
     ghost use Rattle.std.specs.Prelude.{List, ℕ, length, ◌≡◌};
-    ghost use Rattle.dl_pages.specs.Listing.{items_of, height_of, HasRank};
+    ghost use Rattle.dl_pages.specs.Listing.{seen, HasRank};
     ghost use Rattle.std.proofs.Common.{arith};
 
     ghost Value = { List T × ℕ };
 
-    ghost view = { λ p. (items_of p.item p.page, height_of p.page) };
+    ghost view = { λ p. seen p.below };
 
-    ghost invariant = { λ p. (p.len ≡ length (items_of p.item p.page)) × HasRank T.rank p.rank (items_of p.item p.page) };
+    ghost invariant = { λ p. (p.len ≡ length (seen p.below).0) × HasRank T.rank p.rank (seen p.below).0 };
 
     ghost size = { λ v. v.1 };
 
@@ -65,7 +71,7 @@ struct Page<T: Ranked> {
     rank: u64,
     len: usize,
     used: usize,
-    parts: [Part<T>; 8],
+    parts: [Part<T>; 4],
 }
 
 impl<T: Ranked> Model for Page<T> {
@@ -78,7 +84,7 @@ impl<T: Ranked> Model for Page<T> {
 
     ghost view = { λ p. (flatten (take p.used p.parts), most (λ v. v.1 + 1) p.parts) };
 
-    ghost invariant = { λ p. (p.used ≤ 8) × (p.len ≡ length (flatten (take p.used p.parts))) × HasRank T.rank p.rank (flatten (take p.used p.parts)) × AreFilled (take p.used p.parts) };
+    ghost invariant = { λ p. (p.used ≤ 4) × (p.len ≡ length (flatten (take p.used p.parts))) × HasRank T.rank p.rank (flatten (take p.used p.parts)) × AreFilled (take p.used p.parts) };
 
     ghost size = { λ v. v.1 };
 
@@ -100,14 +106,14 @@ impl<T: Ranked> Pages<T> {
         self.top.len()
     }
 
-    /// The item at a place from 0; None past the last. It takes no memory. The cost grows with the logarithm of the length.
+    /// The item at a place from 0; None past the last. It takes no memory. The cost is that of a walk from the top to a leaf.
     pub fn at(&self, index: usize) -> Option<&T>
         ensures { option_copied result ≡ slice_get self.now index }
     {
         self.top.at(index)
     }
 
-    /// The item at a place from 0, where one stands. It takes no memory. The cost grows with the logarithm of the length.
+    /// The item at a place from 0, where one stands. It takes no memory. The cost is that of a walk from the top to a leaf.
     #[tactic(auto, using(crate::proofs::Places::none_within))]
     pub fn item(&self, index: usize) -> &T
         requires { index < length self.now }
@@ -141,7 +147,7 @@ pub trait Predicate<T: Ranked> {
 
 impl<T: Ranked> Pages<T> {
     /// How many items pass a test, where none that fails it is before one that passes it, as with `slice::partition_point`. It takes
-    /// no memory. The cost grows with the logarithm of the length.
+    /// no memory. The cost is that of a walk from the top to a leaf.
     pub fn partition_point<F: Predicate<T>>(&self, predicate: &F) -> usize
         ensures within { result ≤ length self.now }
         ensures point { IsPartitioned (F.test predicate.now) self.now → IsPartitionPoint (F.test predicate.now) self.now result }
@@ -151,7 +157,7 @@ impl<T: Ranked> Pages<T> {
     }
 
     /// How many items pass a test, as `partition_point` tells, and the item that stands there, which is the first that fails it;
-    /// None where all pass. It is one walk. It takes no memory. The cost grows with the logarithm of the length.
+    /// None where all pass. It takes no memory. The cost is that of a walk from the top to a leaf.
     pub fn first_failing<F: Predicate<T>>(&self, predicate: &F) -> (usize, Option<&T>)
         ensures within { result.0 ≤ length self.now }
         ensures point { IsPartitioned (F.test predicate.now) self.now → IsPartitionPoint (F.test predicate.now) self.now result.0 }
@@ -167,15 +173,21 @@ impl<T: Drop + Ranked> Pages<T> {
         ensures { IfOk result (λ made. made ≡ items) }
     {
         let mut parts = Vec::new(alloc);
+        let mut row = Vec::with_capacity(alloc, 16)?;
         for item in items.into_vec() {
-            parts.push(Part::of_item(Arc::new(alloc, item)?))?;
+            if row.len() == 16 {
+                parts.push(Part::of_row(alloc, row)?)?;
+                row = Vec::with_capacity(alloc, 16)?;
+            }
+            row.push(item)?;
         }
+        parts.push(Part::of_row(alloc, row)?)?;
         Ok(Pages {
             top: gathered(alloc, parts)?,
         })
     }
 
-    /// The same list, which shares each page. It costs the same for each list: one count.
+    /// The same list, which shares each page. It costs the same for each list: one count. The error is want of memory.
     pub fn share(&self) -> Result<Pages<T>, Memory>
         ensures { IfOk result (λ made. made ≡ self.now) }
     {
@@ -183,22 +195,27 @@ impl<T: Drop + Ranked> Pages<T> {
             top: self.top.share()?,
         })
     }
+}
 
-    /// The list with one more item at a place from 0; at its end where the place is past it. This list stays. The cost
-    /// grows with the logarithm of the length.
-    pub fn inserted(&self, alloc: Global, index: usize, item: Arc<T>) -> Result<Pages<T>, Memory>
-        ensures { IfOk result (λ made. made ≡ insert self.now index (arc_value item)) }
+impl<T: Copied + Ranked> Pages<T> {
+    /// The list with one more item at a place from 0; at its end where the place is past it. This list stays. The cost is that of
+    /// a walk from the top to a leaf, and of copies of the leaf's items. The error is want of memory.
+    pub fn inserted(&self, alloc: Global, index: usize, item: T) -> Result<Pages<T>, Memory>
+        ensures { IfOk result (λ made. made ≡ insert self.now index item) }
     {
         if self.len() < index {
-            return self.inserted_within(alloc, self.len(), item);
+            let made = self.inserted_within(alloc, self.len(), item)?;
+            return Ok(made);
         }
-        self.inserted_within(alloc, index, item)
+        let made = self.inserted_within(alloc, index, item)?;
+        Ok(made)
     }
 
-    fn inserted_within(&self, alloc: Global, index: usize, item: Arc<T>) -> Result<Pages<T>, Memory>
-        ensures { IfOk result (λ made. made ≡ insert self.now index (arc_value item)) }
+    fn inserted_within(&self, alloc: Global, index: usize, item: T) -> Result<Pages<T>, Memory>
+        requires { index ≤ length self.now }
+        ensures { IfOk result (λ made. made ≡ insert self.now index item) }
     {
-        let made = self.top.inserted(alloc, index, Part::of_item(item))?;
+        let made = self.top.inserted(alloc, index, item)?;
         if made.second.len == 0 {
             return Ok(Pages { top: made.first });
         }
@@ -207,18 +224,18 @@ impl<T: Drop + Ranked> Pages<T> {
         })
     }
 
-    /// The list with another item at a place from 0; the same list where no item stands there. This list stays. The cost grows
-    /// with the logarithm of the length.
-    pub fn replaced(&self, alloc: Global, index: usize, item: Arc<T>) -> Result<Pages<T>, Memory>
-        ensures { IfOk result (λ made. made ≡ slice_set self.now index (arc_value item)) }
+    /// The list with another item at a place from 0; the same list where no item stands there. This list stays. The cost is as that
+    /// of `inserted`. The error is want of memory.
+    pub fn replaced(&self, alloc: Global, index: usize, item: T) -> Result<Pages<T>, Memory>
+        ensures { IfOk result (λ made. made ≡ slice_set self.now index item) }
     {
         Ok(Pages {
-            top: self.top.replaced(alloc, index, Part::of_item(item))?,
+            top: self.top.replaced(alloc, index, item)?,
         })
     }
 
-    /// The list without the item at a place from 0; the same list where no item stands there. This list stays. The cost grows
-    /// with the logarithm of the length.
+    /// The list without the item at a place from 0; the same list where no item stands there. This list stays. The cost is as that
+    /// of `inserted`. The error is want of memory.
     pub fn removed(&self, alloc: Global, index: usize) -> Result<Pages<T>, Memory>
         ensures { IfOk result (λ made. made ≡ remove self.now index) }
     {
@@ -372,19 +389,7 @@ impl<T: Ranked> Part<T> {
         Part {
             rank: 0,
             len: 0,
-            item: None,
-            page: None,
-        }
-    }
-
-    fn of_item(item: Arc<T>) -> Part<T>
-        ensures { result.0 ≡ arc_value item ∷ [] }
-    {
-        Part {
-            rank: item.rank(),
-            len: 1,
-            item: Some(item),
-            page: None,
+            below: Below::Nothing,
         }
     }
 
@@ -394,22 +399,39 @@ impl<T: Ranked> Part<T> {
         self.len
     }
 
+    // The items of a part of no page.
+    fn row(&self) -> &[T]
+        requires { self.now.1 ≡ 0 }
+        ensures { result.now ≡ self.now.0 }
+    {
+        match &self.below {
+            Below::Leaf(leaf) => leaf.as_slice(),
+            _ => &[],
+        }
+    }
+
+    // The page, where the part is one.
+    fn page(&self) -> Option<&Page<T>>
+        ensures { MatchOption result (self.now.1 ≡ 0) (λ p. (p.now.0 ≡ self.now.0) × (p.now.1 + 1 ≡ self.now.1)) }
+    {
+        match &self.below {
+            Below::Page(page) => Some(page),
+            _ => None,
+        }
+    }
+
     #[tactic(auto, using(crate::proofs::Parts::get_split, crate::proofs::Parts::below_split))]
     fn at(&self, index: usize) -> Option<&T>
         ensures { option_copied result ≡ slice_get self.now.0 index }
     {
-        match &self.page {
+        match self.page() {
             Some(page) => {
-                let page: &Page<T> = page;
                 match find(page.parts(), index) {
                     Some(spot) => spot.part.at(spot.index),
                     None => None,
                 }
             }
-            None => match &self.item {
-                Some(item) if index == 0 => Some(item),
-                _ => None,
-            },
+            None => item_at(self.row(), index),
         }
     }
 
@@ -440,9 +462,8 @@ impl<T: Ranked> Part<T> {
         if self.len == 0 {
             return (0, None);
         }
-        match &self.page {
+        match self.page() {
             Some(page) => {
-                let page: &Page<T> = page;
                 let parts = page.parts();
                 let (before, rest) = parts.split_at(entry(parts, predicate, pivot));
                 let Some((part, behind)) = rest.split_first() else {
@@ -455,16 +476,7 @@ impl<T: Ranked> Part<T> {
                     None => (place, first_of(behind)),
                 }
             }
-            None => match &self.item {
-                Some(item) => {
-                    if self.begins_passing(predicate, pivot) {
-                        (1, None)
-                    } else {
-                        (0, Some(item))
-                    }
-                }
-                None => (0, None),
-            },
+            None => first_failing_of(self.row(), predicate, pivot),
         }
     }
 }
@@ -476,41 +488,79 @@ impl<T: Drop + Ranked> Part<T> {
         Ok(Part {
             rank: page.rank,
             len: page.len,
-            item: None,
-            page: Some(Arc::new(alloc, page)?),
+            below: Below::Page(Arc::new(alloc, page)?),
         })
+    }
+
+    // A leaf.
+    fn of_row(alloc: Global, row: Vec<T>) -> Result<Part<T>, Memory>
+        ensures { IfOk result (λ made. made.0 ≡ row.items) }
+    {
+        Ok(Part {
+            rank: rank_of(row.as_slice()),
+            len: row.len(),
+            below: Below::Leaf(Arc::new(alloc, List::from_vec(row))?),
+        })
+    }
+
+    // Reads the count of owners, which `share` will write.
+    fn prefetch(&self) {
+        match &self.below {
+            Below::Nothing => {}
+            Below::Leaf(leaf) => {
+                let _ = Arc::strong_count(leaf);
+            }
+            Below::Page(page) => {
+                let _ = Arc::strong_count(page);
+            }
+        }
     }
 
     fn share(&self) -> Result<Part<T>, Memory>
         ensures { IfOk result (λ made. made.0 ≡ self.now.0) }
     {
-        let item = match &self.item {
-            Some(item) => Some(Arc::try_clone(item)?),
-            None => None,
-        };
-        let page = match &self.page {
-            Some(page) => Some(Arc::try_clone(page)?),
-            None => None,
+        let below = match &self.below {
+            Below::Nothing => Below::Nothing,
+            Below::Leaf(leaf) => Below::Leaf(Arc::try_clone(leaf)?),
+            Below::Page(page) => Below::Page(Arc::try_clone(page)?),
         };
         Ok(Part {
             rank: self.rank,
             len: self.len,
-            item,
-            page,
+            below,
         })
     }
 
-    #[tactic(auto, using(crate::proofs::Parts::below_split))]
-    fn inserted(&self, alloc: Global, index: usize, item: Part<T>) -> Result<Made<T>, Memory>
-        ensures { IfOk result (λ made. (x : T) → item.0 ≡ x ∷ [] → made.first.0 ++ made.second.0 ≡ insert self.now.0 index x) }
+    // The same items as low as they may stand: in place of a page of one part, that part.
+    #[tactic(auto, using(crate::proofs::Parts::below_first, crate::proofs::Parts::flatten_one))]
+    fn lowered(&self) -> Result<Part<T>, Memory>
+        ensures { IfOk result (λ made. made.0 ≡ self.now.0) }
     {
-        let Some(page) = &self.page else {
-            return self.paired(index, item);
+        let Some(page) = self.page() else {
+            return self.share();
         };
-        let page: &Page<T> = page;
+        match page.parts().split_first() {
+            Some((part, behind)) if behind.is_empty() => part.lowered(),
+            _ => self.share(),
+        }
+    }
+}
+
+impl<T: Copied + Ranked> Part<T> {
+    #[tactic(auto, using(crate::proofs::Parts::below_split))]
+    fn inserted(&self, alloc: Global, index: usize, item: T) -> Result<Made<T>, Memory>
+        requires { index ≤ length self.now.0 }
+        ensures { IfOk result (λ made. made.first.0 ++ made.second.0 ≡ insert self.now.0 index item) }
+    {
+        let Some(page) = self.page() else {
+            let made = self.inserted_in_row(alloc, index, item)?;
+            return Ok(made);
+        };
         let last = index.saturating_sub(1);
         match find(page.parts(), last) {
             Some(spot) => {
+                prefetch_parts(spot.before);
+                prefetch_parts(spot.behind);
                 let made = spot
                     .part
                     .inserted(alloc, spot.index + (index - last), item)?;
@@ -519,46 +569,48 @@ impl<T: Drop + Ranked> Part<T> {
             }
             None => Ok(Made {
                 first: self.share()?,
-                second: item,
+                second: with_item(alloc, &[], 0, item)?,
             }),
         }
     }
 
-    // A part of no page, with an item beside its own.
-    fn paired(&self, index: usize, item: Part<T>) -> Result<Made<T>, Memory>
-        requires { length self.now.0 ≤ 1 }
-        ensures { IfOk result (λ made. (x : T) → item.0 ≡ x ∷ [] → made.first.0 ++ made.second.0 ≡ insert self.now.0 index x) }
+    // A part of no page, with one more item: two leaves where its own is full. An item that is new at the end of a full leaf stands
+    // alone in the second one, so that items which come in order fill the leaves.
+    fn inserted_in_row(&self, alloc: Global, index: usize, item: T) -> Result<Made<T>, Memory>
+        requires row { self.now.1 ≡ 0 }
+        requires within { index ≤ length self.now.0 }
+        ensures { IfOk result (λ made. made.first.0 ++ made.second.0 ≡ insert self.now.0 index item) }
     {
-        if self.len == 0 {
-            return Ok(Made::one(item));
+        let row = self.row();
+        if row.len() < 16 {
+            let made = with_item(alloc, row, index, item)?;
+            return Ok(Made::one(made));
         }
-        let own = self.share()?;
-        if index == 0 {
-            Ok(Made {
-                first: item,
-                second: own,
-            })
-        } else {
-            Ok(Made {
-                first: own,
-                second: item,
-            })
+        if index == row.len() {
+            return Ok(Made {
+                first: self.share()?,
+                second: with_item(alloc, &[], 0, item)?,
+            });
         }
+        let made = halved(alloc, row, index, item)?;
+        Ok(made)
     }
 
     #[tactic(auto, using(crate::proofs::Parts::below_split))]
-    fn replaced(&self, alloc: Global, index: usize, item: Part<T>) -> Result<Part<T>, Memory>
-        ensures { IfOk result (λ made. (x : T) → item.0 ≡ x ∷ [] → made.0 ≡ slice_set self.now.0 index x) }
+    fn replaced(&self, alloc: Global, index: usize, item: T) -> Result<Part<T>, Memory>
+        ensures { IfOk result (λ made. made.0 ≡ slice_set self.now.0 index item) }
     {
         if self.len() <= index {
             return self.share();
         }
-        let Some(page) = &self.page else {
-            return Ok(item);
+        let Some(page) = self.page() else {
+            let made = with_other(alloc, self.row(), index, item)?;
+            return Ok(made);
         };
-        let page: &Page<T> = page;
         match find(page.parts(), index) {
             Some(spot) => {
+                prefetch_parts(spot.before);
+                prefetch_parts(spot.behind);
                 let made = spot.part.replaced(alloc, spot.index, item)?;
                 let page = page_of(alloc, spot.before, Made::one(made), spot.behind)?;
                 Ok(page)
@@ -574,12 +626,14 @@ impl<T: Drop + Ranked> Part<T> {
         if self.len() <= index {
             return self.share();
         }
-        let Some(page) = &self.page else {
-            return Ok(Part::blank());
+        let Some(page) = self.page() else {
+            let made = without_item(alloc, self.row(), index)?;
+            return Ok(made);
         };
-        let page: &Page<T> = page;
         match find(page.parts(), index) {
             Some(spot) => {
+                prefetch_parts(spot.before);
+                prefetch_parts(spot.behind);
                 let made = spot.part.removed(alloc, spot.index)?;
                 let page = page_of(alloc, spot.before, Made::one(made), spot.behind)?;
                 Ok(page)
@@ -587,21 +641,167 @@ impl<T: Drop + Ranked> Part<T> {
             None => self.share(),
         }
     }
+}
 
-    // The same items as low as they may stand: in place of a page of one part, that part.
-    #[tactic(auto, using(crate::proofs::Parts::below_first, crate::proofs::Parts::flatten_one))]
-    fn lowered(&self) -> Result<Part<T>, Memory>
-        ensures { IfOk result (λ made. made.0 ≡ self.now.0) }
-    {
-        let Some(page) = &self.page else {
-            return self.share();
-        };
-        let page: &Page<T> = page;
-        match page.parts().split_first() {
-            Some((part, behind)) if behind.is_empty() => part.lowered(),
-            _ => self.share(),
-        }
+// The item at a place in a row; None past the last.
+fn item_at<T>(row: &[T], index: usize) -> Option<&T>
+    ensures { option_copied result ≡ slice_get row.now index }
+{
+    row.get(index)
+}
+
+// The rank of the first item of a row, or 0.
+fn rank_of<T: Ranked>(row: &[T]) -> u64
+    ensures { HasRank T.rank result row.now }
+{
+    match row.first() {
+        Some(item) => item.rank(),
+        None => 0,
     }
+}
+
+// Whether an item passes a test. Where its rank tells, it is not asked.
+fn is_passing<T: Ranked, F: Predicate<T>>(item: &T, predicate: &F, pivot: u64) -> bool
+    requires { pivot ≡ F.pivot predicate.now }
+    ensures { result ≡ F.test predicate.now item.now }
+{
+    let rank = item.rank();
+    if rank != pivot {
+        return rank < pivot;
+    }
+    predicate.passes(item)
+}
+
+// As with the list, of items in a row.
+fn first_failing_of<'a, T: Ranked, F: Predicate<T>>(
+    row: &'a [T],
+    predicate: &F,
+    pivot: u64,
+) -> (usize, Option<&'a T>)
+    requires { pivot ≡ F.pivot predicate.now }
+    ensures within { result.0 ≤ length row.now }
+    ensures point { IsPartitioned (F.test predicate.now) row.now → IsPartitionPoint (F.test predicate.now) row.now result.0 }
+    ensures item { option_copied result.1 ≡ slice_get row.now result.0 }
+{
+    let place = row.partition_point(|item| is_passing(item, predicate, pivot));
+    (place, item_at(row, place))
+}
+
+// Reads what copies of some items will write.
+fn prefetch_items<T: Ranked>(items: &[T]) {
+    for item in items {
+        item.prefetch();
+    }
+}
+
+// Puts copies of items at the end, which other leaves keep too.
+fn push_copies<T: Copied + Ranked>(row: &mut Vec<T>, items: &[T]) -> Result<(), Memory>
+    ensures { OnOk result (row.new.items ≡ row.old.items ++ items.now) }
+{
+    prefetch_items(items);
+    let mut rest = items;
+    while let Some((item, behind)) = rest.split_first() {
+        row.push(item.copy()?)?;
+        rest = behind;
+    }
+    Ok(())
+}
+
+// A leaf of copies of items, and of one between them. Each leaf has room for sixteen, so that the memory of one that goes serves the
+// next.
+fn leaf_of<T: Copied + Ranked>(
+    alloc: Global,
+    before: &[T],
+    item: Option<T>,
+    behind: &[T],
+) -> Result<Part<T>, Memory>
+    ensures { IfOk result (λ made. made.0 ≡ before.now ++ (option_to_list item ++ behind.now)) }
+{
+    let mut row = Vec::with_capacity(alloc, 16)?;
+    push_copies(&mut row, before)?;
+    if let Some(item) = item {
+        row.push(item)?;
+    }
+    push_copies(&mut row, behind)?;
+    Part::of_row(alloc, row)
+}
+
+// A leaf of copies of items.
+fn copy_of<T: Copied + Ranked>(alloc: Global, row: &[T]) -> Result<Part<T>, Memory>
+    ensures { IfOk result (λ made. made.0 ≡ row.now) }
+{
+    let made = leaf_of(alloc, row, None, &[])?;
+    Ok(made)
+}
+
+// A leaf of a row with one more item.
+fn with_item<T: Copied + Ranked>(
+    alloc: Global,
+    row: &[T],
+    index: usize,
+    item: T,
+) -> Result<Part<T>, Memory>
+    requires { index ≤ length row.now }
+    ensures { IfOk result (λ made. made.0 ≡ insert row.now index item) }
+{
+    let (before, behind) = row.split_at(index);
+    let made = leaf_of(alloc, before, Some(item), behind)?;
+    Ok(made)
+}
+
+// A leaf of a row with another item in place of one.
+fn with_other<T: Copied + Ranked>(
+    alloc: Global,
+    row: &[T],
+    index: usize,
+    item: T,
+) -> Result<Part<T>, Memory>
+    requires { index < length row.now }
+    ensures { IfOk result (λ made. made.0 ≡ slice_set row.now index item) }
+{
+    let (before, rest) = row.split_at(index);
+    let (_, behind) = rest.split_at(1);
+    let made = leaf_of(alloc, before, Some(item), behind)?;
+    Ok(made)
+}
+
+// A leaf of a row without an item.
+fn without_item<T: Copied + Ranked>(
+    alloc: Global,
+    row: &[T],
+    index: usize,
+) -> Result<Part<T>, Memory>
+    requires { index < length row.now }
+    ensures { IfOk result (λ made. made.0 ≡ remove row.now index) }
+{
+    let (before, rest) = row.split_at(index);
+    let (_, behind) = rest.split_at(1);
+    let made = leaf_of(alloc, before, None, behind)?;
+    Ok(made)
+}
+
+// Two leaves of a full row with one more item: eight items are in the one, and the others in the other.
+fn halved<T: Copied + Ranked>(
+    alloc: Global,
+    row: &[T],
+    index: usize,
+    item: T,
+) -> Result<Made<T>, Memory>
+    requires full { 8 ≤ length row.now }
+    requires within { index ≤ length row.now }
+    ensures { IfOk result (λ made. made.first.0 ++ made.second.0 ≡ insert row.now index item) }
+{
+    let (front, back) = row.split_at(8);
+    if index <= 8 {
+        return Ok(Made {
+            first: with_item(alloc, front, index, item)?,
+            second: copy_of(alloc, back)?,
+        });
+    }
+    Ok(Made {
+        first: copy_of(alloc, front)?,
+        second: with_item(alloc, back, index - 8, item)?,
+    })
 }
 
 impl<T: Ranked> Page<T> {
@@ -622,16 +822,7 @@ impl<T: Ranked> Page<T> {
             rank: 0,
             len: 0,
             used: 0,
-            parts: [
-                Part::blank(),
-                Part::blank(),
-                Part::blank(),
-                Part::blank(),
-                Part::blank(),
-                Part::blank(),
-                Part::blank(),
-                Part::blank(),
-            ],
+            parts: [Part::blank(), Part::blank(), Part::blank(), Part::blank()],
         }
     }
 }
@@ -648,7 +839,7 @@ impl<T: Drop + Ranked> Page<T> {
         let Some(len) = self.len.checked_add(part.len) else {
             return Err(Memory);
         };
-        if self.used >= 8 {
+        if self.used >= 4 {
             return Err(Memory);
         }
         self.rank = first_rank(self.len, self.rank, part.rank);
@@ -668,6 +859,13 @@ impl<T: Drop + Ranked> Page<T> {
             rest = behind;
         }
         Ok(())
+    }
+}
+
+// Reads what shares of some parts will write: on the way down, so that the processor waits for all of that memory at once.
+fn prefetch_parts<T: Drop + Ranked>(parts: &[Part<T>]) {
+    for part in parts {
+        part.prefetch();
     }
 }
 
@@ -726,7 +924,7 @@ fn parted<T: Drop + Ranked>(
 ) -> Result<Made<T>, Memory>
     ensures { IfOk result (λ parts. parts.first.0 ++ parts.second.0 ≡ flatten before.now ++ ((made.first.0 ++ made.second.0) ++ flatten behind.now)) }
 {
-    if before.len() + made.places() + behind.len() <= 8 {
+    if before.len() + made.places() + behind.len() <= 4 {
         return Ok(Made::one(page_of(alloc, before, made, behind)?));
     }
     if behind.is_empty() {
@@ -735,26 +933,26 @@ fn parted<T: Drop + Ranked>(
             second: page_of_made(alloc, Made::one(made.second))?,
         });
     }
-    if before.len() >= 4 {
-        let (front, back) = before.split_at(4);
+    if before.len() >= 2 {
+        let (front, back) = before.split_at(2);
         return Ok(Made {
             first: page_of_parts(alloc, front)?,
             second: page_of(alloc, back, made, behind)?,
         });
     }
-    let (front, back) = behind.split_at(3 - before.len());
+    let (front, back) = behind.split_at(1 - before.len());
     Ok(Made {
         first: page_of(alloc, before, made, front)?,
         second: page_of_parts(alloc, back)?,
     })
 }
 
-// Parts under one top: pages of eight, as often as it takes. Twenty-two rounds are enough for a length of 64 bits.
+// Parts under one top: pages of four, as often as it takes. Thirty-two rounds are enough for a length of 64 bits.
 fn gathered<T: Drop + Ranked>(alloc: Global, parts: Vec<Part<T>>) -> Result<Part<T>, Memory>
     ensures { IfOk result (λ made. made.0 ≡ flatten parts.items) }
 {
     let mut parts = parts;
-    for _ in 0..22 {
+    for _ in 0..32 {
         if parts.len() <= 1 {
             break;
         }
@@ -765,12 +963,12 @@ fn gathered<T: Drop + Ranked>(alloc: Global, parts: Vec<Part<T>>) -> Result<Part
     Ok(top)
 }
 
-// Parts in pages of eight.
+// Parts in pages of four.
 fn in_pages<T: Drop + Ranked>(alloc: Global, parts: &[Part<T>]) -> Result<Vec<Part<T>>, Memory>
     ensures { IfOk result (λ made. flatten made.items ≡ flatten parts.now) }
 {
     let mut made = Vec::new(alloc);
-    for few in parts.chunks(8) {
+    for few in parts.chunks(4) {
         made.push(page_of_parts(alloc, few)?)?;
     }
     Ok(made)

@@ -1,7 +1,7 @@
 // Ranks: a number for each item, by which most tests are answered without a look at the item.
 ghost use Rattle.std.specs.Prelude.{◌≡◌, ℕ};
 
-use dl_base::{LinkNo, Row};
+use dl_base::LinkNo;
 
 /// Items with a rank: a number that depends on the item alone. Any number is right; a test is answered by ranks as often as they
 /// tell items apart.
@@ -10,6 +10,10 @@ pub trait Ranked {
 
     fn rank(&self) -> u64
         ensures { result ≡ rank self.now };
+
+    /// Reads the memory that a copy of the item will write, as the count of owners of what copies share, and changes nothing. It is
+    /// called for some items before each is copied, so that the processor waits for all of that memory at once.
+    fn prefetch(&self);
 }
 
 impl Ranked for u64 {
@@ -18,6 +22,8 @@ impl Ranked for u64 {
     fn rank(&self) -> u64 {
         *self
     }
+
+    fn prefetch(&self) {}
 }
 
 impl Ranked for LinkNo {
@@ -28,6 +34,8 @@ impl Ranked for LinkNo {
     fn rank(&self) -> u64 {
         self.tx.wrapping_mul(1 << 20).wrapping_add(self.k as u64)
     }
+
+    fn prefetch(&self) {}
 }
 
 impl<K: Ranked> Ranked for (K, u64) {
@@ -36,12 +44,8 @@ impl<K: Ranked> Ranked for (K, u64) {
     fn rank(&self) -> u64 {
         self.0.rank()
     }
-}
 
-impl Ranked for (u64, Row) {
-    ghost rank = { λ r. r.0 };
-
-    fn rank(&self) -> u64 {
-        self.0
+    fn prefetch(&self) {
+        self.0.prefetch();
     }
 }

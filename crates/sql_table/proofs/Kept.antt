@@ -5,7 +5,7 @@ use Rattle.dl_base.specs.declared.value.LinkNo.{LinkNo}
 use Rattle.dl_base.specs.declared.value.Row.{Row}
 use Rattle.dl_pages.specs.Orders.{link_order}
 use Rattle.meaning_tables.specs.Tables.{row_of, with_row, without_row}
-use Rattle.sql_table.specs.declared.key.Key.{Key}
+use Rattle.sql_table.specs.KeySeen.{Key}
 use Rattle.sql_table.specs.Keys.{key_order, key_marks}
 use Rattle.sql_table.specs.Marks.{IsKept, OtherMarks, WithMarks, WithoutMarks, link_marks}
 use Rattle.sql_table.proofs.Marking.{index_none, index_inserted, index_exchanged, index_removed}

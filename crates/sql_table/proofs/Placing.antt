@@ -13,7 +13,7 @@ use Rattle.dl_pages.specs.Orders.{link_order}
 use Rattle.dl_pages.specs.Points.{IsPartitionPoint}
 use Rattle.dl_pages.specs.Sets.{has}
 use Rattle.meaning_tables.specs.Tables.{Rise, row_of, with_row}
-use Rattle.sql_table.specs.declared.key.Key.{Key}
+use Rattle.sql_table.specs.KeySeen.{Key}
 use Rattle.sql_table.specs.Keys.{key_order, key_marks}
 use Rattle.sql_table.specs.Marks.{IsIndex, IsKept, WithMarks, among, link_marks, marked}
 use Rattle.sql_table.specs.Places.{IsPlace}

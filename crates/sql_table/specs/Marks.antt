@@ -16,7 +16,7 @@ use Rattle.dl_pages.specs.Entries.{entry_order}
 use Rattle.dl_pages.specs.Orders.{link_order}
 use Rattle.dl_pages.specs.Sets.{has}
 use Rattle.meaning_tables.specs.Tables.{Rise, row_of}
-use Rattle.sql_table.specs.declared.key.Key.{Key}
+use Rattle.sql_table.specs.KeySeen.{Key}
 use Rattle.sql_table.specs.Keys.{key_order, key_marks}
 
 -- whether one of these marks is this one

@@ -10,13 +10,14 @@ ghost use Rattle.sql_table.specs.Keys.{key_order, key_marks};
 ghost use Rattle.sql_table.specs.Marks.{WithMarks, WithoutMarks, OtherMarks, IsIndex, cell_marks, link_marks};
 
 use crate::key::{Key, row_keys};
-use dl_base::{Column, Kind, LinkNo, List, Memory, Row, Value};
+use crate::numbered::Numbered;
+use dl_base::{Column, Copied, Kind, LinkNo, List, Memory, Row, Value};
 use dl_pages::{Ordered, Pages, with_member, without_member};
 use std::alloc::Global;
 use std::cmp::Ordering;
 
 /// The index with marks under a number.
-pub(crate) fn with_marks<K: Ordered>(
+pub(crate) fn with_marks<K: Ordered + Copied>(
     alloc: Global,
     index: &Pages<(K, u64)>,
     marks: List<K>,
@@ -33,7 +34,7 @@ pub(crate) fn with_marks<K: Ordered>(
 }
 
 /// The index without marks under a number.
-pub(crate) fn without_marks<K: Ordered>(
+pub(crate) fn without_marks<K: Ordered + Copied>(
     alloc: Global,
     index: &Pages<(K, u64)>,
     marks: List<K>,
@@ -51,7 +52,7 @@ pub(crate) fn without_marks<K: Ordered>(
 
 /// The index with other marks under a number. Where they are equal to those that it has there, it is the same index, and no page is
 /// copied.
-fn with_other_marks<K: Ordered>(
+fn with_other_marks<K: Ordered + Copied>(
     alloc: Global,
     index: &Pages<(K, u64)>,
     before: List<K>,
@@ -192,7 +193,7 @@ pub(crate) fn link_index(
     alloc: Global,
     columns: &List<Column>,
     next: u64,
-    rows: &Pages<(u64, Row)>,
+    rows: &Pages<Numbered>,
 ) -> Result<Pages<(LinkNo, u64)>, Memory>
     requires { Rise 0 next rows.now }
     ensures { IfOk result (λ made. IsIndex link_order (link_marks columns.now) rows.now made) }
@@ -200,7 +201,7 @@ pub(crate) fn link_index(
     let mut made = Pages::empty();
     for i in 0..rows.len() {
         let item = rows.item(i);
-        made = with_row_links(alloc, columns, &made, &item.1, item.0)?;
+        made = with_row_links(alloc, columns, &made, item.row(), item.number())?;
     }
     Ok(made)
 }
@@ -210,7 +211,7 @@ pub(crate) fn key_index(
     alloc: Global,
     columns: &List<Column>,
     next: u64,
-    rows: &Pages<(u64, Row)>,
+    rows: &Pages<Numbered>,
 ) -> Result<Pages<(Key, u64)>, Memory>
     requires { Rise 0 next rows.now }
     ensures { IfOk result (λ made. IsIndex key_order (key_marks columns.now) rows.now made) }
@@ -218,7 +219,7 @@ pub(crate) fn key_index(
     let mut made = Pages::empty();
     for i in 0..rows.len() {
         let item = rows.item(i);
-        made = with_row_keys(alloc, columns, &made, &item.1, item.0)?;
+        made = with_row_keys(alloc, columns, &made, item.row(), item.number())?;
     }
     Ok(made)
 }

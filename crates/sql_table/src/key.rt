@@ -1,17 +1,102 @@
 // Keys that an index has: a value in a key column that is a whole number or a text.
-ghost use Rattle.std.specs.Prelude.{◌≡◌, ◌++◌, [], IfOk, OnOk};
-ghost use Rattle.sql_table.specs.Keys.{cell_keys, key_marks, rank_of, text_rank, value_keys};
+ghost use Rattle.std.specs.Prelude.{◌≡◌, ◌++◌, [], pos, IfOk, OnOk};
+ghost use Rattle.sql_table.specs.Keys.{cell_keys, key_marks, number_rank, text_rank, value_keys};
 
-use dl_base::{Column, ColumnRule, List, Memory, Row, Text, Value};
+use dl_base::{Column, ColumnRule, Copied, List, Memory, Row, Text, Value};
 use dl_pages::{Ordered, Probe, Ranked};
+use std::alloc::Global;
 use std::cmp::Ordering;
+use std::marker::Model;
+use std::sync::Arc;
 
-/// A whole number (kind 0) or a text (kind 1).
+/// A whole number (kind 0) or a text (kind 1). Copies share the text, so a copy costs one count at most; and the hash of a text is
+/// made once, with its key.
 #[derive(Drop)]
 pub(crate) struct Key {
-    pub kind: u8,
-    pub number: i64,
-    pub text: Text,
+    held: Held,
+}
+
+#[derive(Drop)]
+enum Held {
+    Number(i64),
+    Text { hash: u64, text: Arc<Text> },
+}
+
+impl Model for Key {
+    ghost use Rattle.sql_table.specs.KeySeen.{Key, seen};
+
+    ghost Value = { Key };
+
+    ghost view = { λ k. seen k.held };
+
+    ghost use Rattle.sql_table.specs.Keys.{HasHash};
+
+    ghost invariant = { λ k. HasHash k.held };
+}
+
+impl Key {
+    fn of_number(number: i64) -> Key
+        ensures { result ≡ record { kind = 0; number = number; text = [] } }
+    {
+        Key {
+            held: Held::Number(number),
+        }
+    }
+
+    fn of_text(alloc: Global, text: Text) -> Result<Key, Memory>
+        ensures { IfOk result (λ made. made ≡ record { kind = 1; number = pos 0; text = text }) }
+    {
+        let hash = text_rank(text.bytes());
+        Ok(Key {
+            held: Held::Text {
+                hash,
+                text: Arc::new(alloc, text)?,
+            },
+        })
+    }
+
+    fn kind(&self) -> u8
+        ensures { result ≡ self.now.kind }
+    {
+        match &self.held {
+            Held::Number(_) => 0,
+            Held::Text { .. } => 1,
+        }
+    }
+
+    // The number; 0 of a text.
+    fn number(&self) -> i64
+        ensures { result ≡ self.now.number }
+    {
+        match &self.held {
+            Held::Number(number) => *number,
+            Held::Text { .. } => 0,
+        }
+    }
+
+    // The bytes of the text; none of a number.
+    fn bytes(&self) -> &[u8]
+        ensures { result.now ≡ self.now.text }
+    {
+        match &self.held {
+            Held::Number(_) => &[],
+            Held::Text { text, .. } => text.bytes(),
+        }
+    }
+}
+
+impl Copied for Key {
+    fn copy(&self) -> Result<Key, Memory> {
+        match &self.held {
+            Held::Number(number) => Ok(Key::of_number(*number)),
+            Held::Text { hash, text } => Ok(Key {
+                held: Held::Text {
+                    hash: *hash,
+                    text: Arc::try_clone(text)?,
+                },
+            }),
+        }
+    }
 }
 
 impl Ranked for Key {
@@ -20,7 +105,16 @@ impl Ranked for Key {
     ghost rank = { key_rank };
 
     fn rank(&self) -> u64 {
-        rank_of(self.kind, self.number, self.text.bytes())
+        match &self.held {
+            Held::Number(number) => number_rank(*number),
+            Held::Text { hash, .. } => *hash,
+        }
+    }
+
+    fn prefetch(&self) {
+        if let Held::Text { text, .. } = &self.held {
+            let _ = Arc::strong_count(text);
+        }
     }
 }
 
@@ -33,9 +127,9 @@ impl Ordered for Key {
 
     fn order(&self, other: &Key) -> Ordering {
         match self.rank().cmp(&other.rank()) {
-            Ordering::Equal => match self.kind.cmp(&other.kind) {
-                Ordering::Equal => match self.number.cmp(&other.number) {
-                    Ordering::Equal => self.text.bytes().cmp(other.text.bytes()),
+            Ordering::Equal => match self.kind().cmp(&other.kind()) {
+                Ordering::Equal => match self.number().cmp(&other.number()) {
+                    Ordering::Equal => self.bytes().cmp(other.bytes()),
                     unlike => unlike,
                 },
                 unlike => unlike,
@@ -49,15 +143,11 @@ impl Ordered for Key {
     ghost follows = { ranked_follows key_rank plain_key_order };
 }
 
-// The rank of a key. Whole numbers have themselves, shifted to be unsigned, so entries whose numbers rise lie together.
-fn rank_of(kind: u8, number: i64, text: &[u8]) -> u64
-    ensures { result ≡ rank_of kind number text.now }
+// The rank of a whole number is itself, shifted to be unsigned, so entries whose numbers rise lie together.
+fn number_rank(number: i64) -> u64
+    ensures { result ≡ number_rank number }
 {
-    if kind == 0 {
-        number.cast_unsigned().wrapping_add(1 << 63)
-    } else {
-        text_rank(text)
-    }
+    number.cast_unsigned().wrapping_add(1 << 63)
 }
 
 // The rank of a text is a hash of its bytes. Texts often begin alike, so their first bytes would tell few of them apart; and an index
@@ -71,35 +161,60 @@ fn text_rank(bytes: &[u8]) -> u64
     })
 }
 
-/// A key that is looked for, by a text's bytes.
+/// A key that is looked for, by a text's bytes. Contracts see the key; its rank is made once, with it.
 #[derive(Drop)]
 pub(crate) struct KeyProbe<'a> {
-    pub kind: u8,
-    pub number: i64,
-    pub text: &'a [u8],
+    kind: u8,
+    number: i64,
+    text: &'a [u8],
+    rank: u64,
+}
+
+impl<'a> Model for KeyProbe<'a> {
+    ghost use Rattle.std.specs.Prelude.{◌≡◌};
+    ghost use Rattle.sql_table.specs.KeySeen.{Key};
+
+    ghost Value = { Key };
+
+    ghost view = { λ p. record { kind = p.kind; number = p.number; text = p.text.now } };
+
+    ghost use Rattle.sql_table.specs.Keys.{rank_of};
+
+    ghost invariant = { λ p. p.rank ≡ rank_of p.kind p.number p.text.now };
 }
 
 /// A whole number that is looked for.
 pub(crate) fn number_probe<'a>(number: &i64) -> KeyProbe<'a>
-    ensures kind { result.kind ≡ 0 }
-    ensures number { result.number ≡ number.now }
-    ensures text { result.text.now ≡ [] }
+    ensures { result ≡ record { kind = 0; number = number.now; text = [] } }
 {
     KeyProbe {
         kind: 0,
         number: *number,
         text: &[],
+        rank: number_rank(*number),
+    }
+}
+
+/// A text that is looked for, by its bytes.
+pub(crate) fn text_probe(text: &[u8]) -> KeyProbe<'_>
+    ensures { result ≡ record { kind = 1; number = pos 0; text = text.now } }
+{
+    KeyProbe {
+        kind: 1,
+        number: 0,
+        text,
+        rank: text_rank(text),
     }
 }
 
 impl Probe<Key> for KeyProbe<'_> {
-    ghost key = { λ a. record { kind = a.kind; number = a.number; text = a.text.now } };
+    ghost key = { λ p. p };
 
     fn compare(&self, other: &Key) -> Ordering {
-        match other.rank().cmp(&self.rank()) {
-            Ordering::Equal => match other.kind.cmp(&self.kind) {
-                Ordering::Equal => match other.number.cmp(&self.number) {
-                    Ordering::Equal => other.text.bytes().cmp(self.text),
+        match other.rank().cmp(&self.rank) {
+            Ordering::Equal => match other.kind().cmp(&self.kind) {
+                Ordering::Equal => match other.number().cmp(&self.number) {
+                    Ordering::Equal => other.bytes().cmp(self.text),
                     unlike => unlike,
                 },
                 unlike => unlike,
@@ -109,7 +224,7 @@ impl Probe<Key> for KeyProbe<'_> {
     }
 
     fn rank(&self) -> u64 {
-        rank_of(self.kind, self.number, self.text)
+        self.rank
     }
 }
 
@@ -144,19 +259,11 @@ fn put_value(made: &mut List<Key>, value: &Value) -> Result<(), Memory>
 {
     match value {
         Value::Int(z) => {
-            made.push(Key {
-                kind: 0,
-                number: *z,
-                text: Text::from_vec(Vec::new(made.allocator())),
-            })?;
+            made.push(Key::of_number(*z))?;
             Ok(())
         }
         Value::Text(text) => {
-            made.push(Key {
-                kind: 1,
-                number: 0,
-                text: text.copy()?,
-            })?;
+            made.push(Key::of_text(made.allocator(), text.copy()?)?)?;
             Ok(())
         }
         Value::Null => Ok(()),

@@ -5,6 +5,7 @@ mod columns;
 mod index;
 mod key;
 mod link_rows;
+mod numbered;
 mod roomy;
 mod table;
 mod tables;

@@ -15,15 +15,15 @@ use crate::index::{
     key_index, link_index, row_marks, with_other_keys, with_other_links, with_row_keys,
     with_row_links, without_marks,
 };
-use crate::key::{Key, KeyProbe, number_probe, row_keys};
+use crate::key::{Key, number_probe, row_keys, text_probe};
+use crate::numbered::{Numbered, shared_rows};
 use dl_base::{Column, Copied, LinkNo, List, Memory, Row, Same, Value};
 use dl_pages::{Pages, Predicate, least};
 use std::alloc::Global;
 use std::marker::Model;
-use std::sync::Arc;
 
 /// Rows by number, and beside them the numbers of rows by link and by key.
-type Parts = (Pages<(u64, Row)>, Pages<(LinkNo, u64)>, Pages<(Key, u64)>);
+type Parts = (Pages<Numbered>, Pages<(LinkNo, u64)>, Pages<(Key, u64)>);
 
 /// A table. Contracts see its version, its columns, the next row number, and its rows in order of their numbers.
 ///
@@ -34,7 +34,7 @@ pub struct Table {
     version: u64,
     columns: Columns,
     next: u64,
-    rows: Pages<(u64, Row)>,
+    rows: Pages<Numbered>,
     links: Pages<(LinkNo, u64)>,
     keys: Pages<(Key, u64)>,
 }
@@ -91,7 +91,7 @@ impl Table {
         ensures { IfOk result (λ made. made ≡ record { version = version; columns = columns; next = next; rows = rows }) }
     {
         let alloc = columns.allocator();
-        let rows = Pages::of(alloc, rows)?;
+        let rows = Pages::of(alloc, shared_rows(alloc, rows)?)?;
         let links = link_index(alloc, &columns, next, &rows)?;
         let keys = key_index(alloc, &columns, next, &rows)?;
         let columns = Columns::shared(alloc, columns)?;
@@ -149,7 +149,7 @@ impl Table {
         ensures left { MatchOption result (drop index self.now.rows ≡ []) (λ r. drop index self.now.rows ≡ (r.0, r.1.now) ∷ drop (index + 1) self.now.rows) }
     {
         match self.rows.at(index) {
-            Some(row) => Some((row.0, &row.1)),
+            Some(row) => Some((row.number(), row.row())),
             None => None,
         }
     }
@@ -161,8 +161,8 @@ impl Table {
         let (place, first) = self.rows.first_failing(&Below { number });
         match first {
             Some(row) => {
-                if row.0 == number {
-                    Some((place, &row.1))
+                if row.number() == number {
+                    Some((place, row.row()))
                 } else {
                     None
                 }
@@ -215,14 +215,7 @@ impl Table {
     {
         match key {
             Value::Int(z) => least(&self.keys, &number_probe(z)),
-            Value::Text(text) => least(
-                &self.keys,
-                &KeyProbe {
-                    kind: 1,
-                    number: 0,
-                    text: text.bytes(),
-                },
-            ),
+            Value::Text(text) => least(&self.keys, &text_probe(text.bytes())),
             Value::Null => None,
             Value::Link(_) => None,
         }
@@ -337,13 +330,13 @@ struct Below {
     number: u64,
 }
 
-impl Predicate<(u64, Row)> for Below {
+impl Predicate<Numbered> for Below {
     ghost use Rattle.std.specs.Prelude.{nat_lt};
 
     ghost test = { λ b r. nat_lt r.0 b.number };
 
-    fn passes(&self, item: &(u64, Row)) -> bool {
-        item.0 < self.number
+    fn passes(&self, item: &Numbered) -> bool {
+        item.number() < self.number
     }
 
     ghost pivot = { λ b. b.number };
@@ -364,7 +357,7 @@ impl Predicate<(u64, Row)> for Below {
 fn pushed(
     columns: &List<Column>,
     number: u64,
-    rows: &Pages<(u64, Row)>,
+    rows: &Pages<Numbered>,
     links: &Pages<(LinkNo, u64)>,
     keys: &Pages<(Key, u64)>,
     row: Row,
@@ -384,7 +377,7 @@ fn pushed(
 fn exchanged(
     columns: &List<Column>,
     next: u64,
-    rows: &Pages<(u64, Row)>,
+    rows: &Pages<Numbered>,
     links: &Pages<(LinkNo, u64)>,
     keys: &Pages<(Key, u64)>,
     place: usize,
@@ -397,7 +390,7 @@ fn exchanged(
     ensures kept { IfOk result (λ made. IsKept columns.now next made.0 made.1 made.2) }
 {
     let alloc = columns.allocator();
-    let before = &rows.item(place).1;
+    let before = rows.item(place).row();
     let links = with_other_links(alloc, columns, links, before, &row, number)?;
     let keys = with_other_keys(alloc, columns, keys, before, &row, number)?;
     let rows = swapped(alloc, rows, place, number, row)?;
@@ -408,7 +401,7 @@ fn exchanged(
 fn without(
     columns: &List<Column>,
     next: u64,
-    rows: &Pages<(u64, Row)>,
+    rows: &Pages<Numbered>,
     links: &Pages<(LinkNo, u64)>,
     keys: &Pages<(Key, u64)>,
     place: usize,
@@ -420,7 +413,7 @@ fn without(
     ensures kept { IfOk result (λ made. IsKept columns.now next made.0 made.1 made.2) }
 {
     let alloc = columns.allocator();
-    let before = &rows.item(place).1;
+    let before = rows.item(place).row();
     let links = without_marks(alloc, links, row_marks(columns, before)?, number)?;
     let keys = without_marks(alloc, keys, row_keys(columns, before)?, number)?;
     let rows = dropped(alloc, rows, place, number)?;
@@ -429,34 +422,38 @@ fn without(
 
 fn appended(
     alloc: Global,
-    rows: &Pages<(u64, Row)>,
+    rows: &Pages<Numbered>,
     number: u64,
     row: Row,
-) -> Result<Pages<(u64, Row)>, Memory>
+) -> Result<Pages<Numbered>, Memory>
     ensures { IfOk result (λ made. made ≡ rows.now ++ (number, row) ∷ []) }
 {
-    rows.inserted(alloc, rows.len(), Arc::new(alloc, (number, row))?)
+    let item = Numbered::of(alloc, number, row)?;
+    let rows = rows.inserted(alloc, rows.len(), item)?;
+    Ok(rows)
 }
 
 fn swapped(
     alloc: Global,
-    rows: &Pages<(u64, Row)>,
+    rows: &Pages<Numbered>,
     place: usize,
     number: u64,
     row: Row,
-) -> Result<Pages<(u64, Row)>, Memory>
+) -> Result<Pages<Numbered>, Memory>
     requires { IsPlace rows.now number place }
     ensures { IfOk result (λ made. made ≡ with_row rows.now number row) }
 {
-    rows.replaced(alloc, place, Arc::new(alloc, (number, row))?)
+    let item = Numbered::of(alloc, number, row)?;
+    let rows = rows.replaced(alloc, place, item)?;
+    Ok(rows)
 }
 
 fn dropped(
     alloc: Global,
-    rows: &Pages<(u64, Row)>,
+    rows: &Pages<Numbered>,
     place: usize,
     number: u64,
-) -> Result<Pages<(u64, Row)>, Memory>
+) -> Result<Pages<Numbered>, Memory>
     requires { IsPlace rows.now number place }
     ensures { IfOk result (λ made. made ≡ without_row rows.now number) }
 {

@@ -13,10 +13,10 @@ use crate::Tables;
 use crate::index::{with_row_keys, with_row_links};
 use crate::key::Key;
 use crate::link_rows::has_number;
+use crate::numbered::Numbered;
 use dl_base::{Column, LinkNo, List, Memory, Row};
 use dl_pages::Pages;
 use std::alloc::Global;
-use std::sync::Arc;
 
 impl Table {
     /// Puts a row of a number that is below the next one: in the place of the row of the number, or between those of smaller and
@@ -85,7 +85,7 @@ impl Tables {
 fn squeezed(
     columns: &List<Column>,
     next: u64,
-    rows: &Pages<(u64, Row)>,
+    rows: &Pages<Numbered>,
     links: &Pages<(LinkNo, u64)>,
     keys: &Pages<(Key, u64)>,
     number: u64,
@@ -108,15 +108,17 @@ fn squeezed(
 fn placed(
     alloc: Global,
     next: u64,
-    rows: &Pages<(u64, Row)>,
+    rows: &Pages<Numbered>,
     number: u64,
     row: Row,
-) -> Result<Pages<(u64, Row)>, Memory>
+) -> Result<Pages<Numbered>, Memory>
     requires rise { Rise 0 next rows.now }
     requires new { row_of rows.now number ≡ None }
     ensures { IfOk result (λ made. made ≡ with_placed rows.now number row) }
 {
     let _ = next;
     let place = rows.partition_point(&Below { number });
-    rows.inserted(alloc, place, Arc::new(alloc, (number, row))?)
+    let item = Numbered::of(alloc, number, row)?;
+    let rows = rows.inserted(alloc, place, item)?;
+    Ok(rows)
 }

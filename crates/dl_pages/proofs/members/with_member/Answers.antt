@@ -1,5 +1,4 @@
-use Rattle.std.proofs.Common.{sym, ◌∙◌, ap}
-use Rattle.std.specs.List.{insert}
+use Rattle.std.proofs.Common.{sym, ◌∙◌}
 use Rattle.std.proofs.lemmas.Result.{IfOk-weaker}
 use Rattle.dl_pages.proofs.Sets.{falls, is_there, is_more}
 use Rattle.dl_pages.proofs.members.with_member.Goals as goal
@@ -17,4 +16,4 @@ returns g c s =
     let o = g.met.T.Ordered.total in
     let e = sym c.stands.ensures ∙ c.if-stands.false in
     let p = c.partition_point-place.ensures.point (falls R o c.args.item c.args.items.now s) in
-    IfOk-weaker c.inserted.result _ _ (λ made is. is_more R o c.args.item c.args.items.now made c.partition_point-place.result e p s (is ∙ ap (λ x. insert c.args.items.now c.partition_point-place.result x) c.in_ok-new.ensures.ok)) c.inserted.ensures
+    IfOk-weaker c.inserted.result _ _ (λ made is. is_more R o c.args.item c.args.items.now made c.partition_point-place.result e p s is) c.inserted.ensures

@@ -1,5 +1,6 @@
-use Rattle.std.proofs.Common.{arith}
+use Rattle.std.proofs.Common.{arith, subst}
 use Rattle.sql_table.specs.Keys.{key_order, key_marks}
+use Rattle.sql_table.specs.Marks.{WithMarks}
 use Rattle.sql_table.proofs.First.{index_next}
 use Rattle.sql_table.proofs.Marking.{index_none}
 use Rattle.std.proofs.lemmas.Grind.{common_steps}
@@ -10,7 +11,8 @@ loop-i-init c = index_none key_order (key_marks c.args.columns.now) c.empty-made
 
 pub loop-i-preserved : goal.loop-i-preserved
 loop-i-preserved c = index_next key_order (key_marks c.args.columns.now) c.args.next c.args.rows.now c.loop-i.i c.item-item.result.now c.loop-i.made c.in_ok-made.made c.requires c.item-item.ensures c.loop-i.invariant
-    c.in_ok-made.ensures
+    (subst (λ n. WithMarks key_order (key_marks c.args.columns.now c.item-item.result.now.1) n c.loop-i.made c.in_ok-made.made) c.number.ensures
+    (subst (λ r. WithMarks key_order (key_marks c.args.columns.now r) c.number.result c.loop-i.made c.in_ok-made.made) c.row.ensures c.in_ok-made.ensures))
 
 pub returns : goal.returns
 returns c = grind (arith, common_steps)

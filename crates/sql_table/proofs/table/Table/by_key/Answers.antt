@@ -14,10 +14,7 @@ returns-in-Int c =
     subst (λ (t : Rows). c.least.result ≡ first_number (has_key t.columns c.args.key.now) t.rows) c.self.view_is
     (subst (λ v. c.least.result ≡ first_number (has_key t.columns v) t.rows) (sym c.in-Int.is)
     (first_int c.in-Int.z t.columns t.next t.rows t.keys c.least.result kept.rise kept.keys
-    (subst (λ s. IsLeast key_order t.keys (record { kind = 0; number = c.in-Int.z; text = s }) c.least.result) c.number_probe.ensures.text
-    (subst (λ n. IsLeast key_order t.keys (record { kind = 0; number = n; text = c.number_probe.result.text.now }) c.least.result) c.number_probe.ensures.number
-    (subst (λ k. IsLeast key_order t.keys (record { kind = k; number = c.number_probe.result.number; text = c.number_probe.result.text.now }) c.least.result) c.number_probe.ensures.kind
-    (c.least.ensures kept.keys.sorted))))))
+    (subst (λ k. IsLeast key_order t.keys k c.least.result) c.number_probe.ensures (c.least.ensures kept.keys.sorted))))
 
 pub returns-in-Text : goal.returns-in-Text
 returns-in-Text c =
@@ -25,7 +22,8 @@ returns-in-Text c =
     let t = c.self.inside in
     subst (λ (t : Rows). c.least-in-Text.result ≡ first_number (has_key t.columns c.args.key.now) t.rows) c.self.view_is
     (subst (λ v. c.least-in-Text.result ≡ first_number (has_key t.columns v) t.rows) (ap (λ s. values.Text s) c.bytes.ensures ∙ sym c.in-Text.is)
-    (first_text c.bytes.result.now t.columns t.next t.rows t.keys c.least-in-Text.result kept.rise kept.keys (c.least-in-Text.ensures kept.keys.sorted)))
+    (first_text c.bytes.result.now t.columns t.next t.rows t.keys c.least-in-Text.result kept.rise kept.keys
+    (subst (λ k. IsLeast key_order t.keys k c.least-in-Text.result) c.text_probe.ensures (c.least-in-Text.ensures kept.keys.sorted))))
 
 pub returns-in-Null : goal.returns-in-Null
 returns-in-Null c = subst (λ v. None ≡ first_number (has_key c.args.self.now.columns v) c.args.self.now.rows) (sym c.in-Null.is) (first_null c.args.self.now.columns c.args.self.now.rows)
