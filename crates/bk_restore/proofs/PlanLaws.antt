@@ -28,7 +28,6 @@ use Rattle.meaning_areas.specs.Copies.{Backup}
 use Rattle.meaning_files.specs.Files.{Files}
 use Rattle.meaning_merge.specs.Merging.{AreNamed}
 use Rattle.meaning_merge.specs.Restoring.{in_the_way, is_lost, lost_cells, restore_changes, restored_tables, without_lost}
-use Rattle.meaning_settling.specs.Settling.{Copies}
 use Rattle.meaning_system.specs.Machine.{lost_to, next_commit, restore_at, restore_found, restore_idle, restore_to, restored_state, tables_in, target_tables, unfinished}
 use Rattle.meaning_system.specs.State.{State, Txn, tables_of}
 use Rattle.meaning_tables.specs.Links.{gives, lacking, links, takes}
@@ -67,20 +66,6 @@ pub plan-same : {E : Type 0} (committed later other : Tables) (lost others : Lis
 plan-same {E} committed later other lost others r same same_lost is =
     subst (λ (ls : List Lost). IfOk r (IsPlanOf committed other ls)) same_lost (subst (λ (ts : Tables). IfOk r (IsPlanOf committed ts lost)) same is)
 
-pub planned-to : (commits : List Commit) (files : Files) (copies : Copies) (target now : Tables) (gs ts : List LinkRow) (way : Option (List ℕ)) (p : RestorePlan) → now ≡ tables_after [] commits → gs ≡ gives now target → ts ≡ takes now target
-    → way ≡ in_the_way files copies gs ts → way ≡ None → IsPlanOf now (without_lost (is_lost files ts) target) (lost_cells (is_lost files ts) target) p → IsPlannedTo commits files copies target (planned.Ready p)
-planned-to commits files copies target now gs ts way p now_is of_gives of_takes way_is none plan = (
-  (λ i. in_the_way files copies (sym gs_is i) (sym ts_is i)) ∙ sym way_is ∙ none,
-  subst (λ (us : List LinkRow). IsPlanOf (tables_after [] commits) (without_lost (is_lost files us) target) (lost_cells (is_lost files us) target) p) ts_is
-      (subst (λ (ns : Tables). IsPlanOf ns (without_lost (is_lost files ts) target) (lost_cells (is_lost files ts) target) p) now_is plan),
-)
-  where
-    gs_is : gs ≡ gives (tables_after [] commits) target
-    gs_is = of_gives ∙ ap (λ (ns : Tables). gives ns target) now_is
-
-    ts_is : ts ≡ takes (tables_after [] commits) target
-    ts_is = of_takes ∙ ap (λ (ns : Tables). takes ns target) now_is
-
 -- a plan over these commits and files
 abbrev over : Tables → RestorePlan → List Commit → Files → Type 0
 over target p cs fs = IsPlanOf (tables_after [] cs) (without_lost (is_lost fs (takes (tables_after [] cs) target)) target) (lost_cells (is_lost fs (takes (tables_after [] cs) target)) target) p
@@ -112,7 +97,7 @@ module _ (s : State) (t : Target) (d : Database) (b : Saved) (f : Catalog) (a : 
       restores-at : restore_idle s t (unfinished s) ≡ restore_at s target way
       restores-at = idle ∙ ap (restore_found s t) some
 
-      pub is-planned : (p : Planned) → IsPlannedTo d.rows.commits f.files a.copies target p → IsPlanned s t p
+      pub is-planned : (p : Planned) → IsPlannedTo (tables_after [] d.rows.commits) f.files a.copies target p → IsPlanned s t p
       is-planned (planned.Refused why) (path, blocked, is_why) =
           restores-at ∙ ap (restore_at s target) (way-is (Some path) blocked) ∙ ap (λ (r : Refusal). (answers.Refused r, s)) (sym is_why)
       is-planned (planned.Ready p) (clear, plan) = (

@@ -17,7 +17,7 @@ use Rattle.dl_base.specs.declared.step.Target.{Target}
 use Rattle.dl_base.specs.declared.step.Target.TheVariants as targets
 use Rattle.fm_archive.specs.Stock.{Stock}
 use Rattle.fs_files.specs.Store.{Catalog}
-use Rattle.meaning_areas.specs.Commits.{Commit, tables_after}
+use Rattle.meaning_areas.specs.Commits.{Commit}
 use Rattle.meaning_areas.specs.Copies.{Backup}
 use Rattle.meaning_areas.specs.Stands.{past}
 use Rattle.meaning_files.specs.Files.{Files}
@@ -44,13 +44,13 @@ pub record IsPlanOf (committed later : Tables) (lost : List Lost) (p : RestorePl
   pub takes : (c : ℕ) → p.takes ≡ takes committed (restored_tables committed later c)
   pub fill : p.fill ≡ list_any (λ t. t.options.recovery) p.takes
 
--- to a target, over these files and copies
-abbrev pub IsPlannedTo : List Commit → Files → Copies → Tables → Planned → Type 0
-IsPlannedTo commits files copies target (planned.Refused why) =
-    (path : List ℕ) × (in_the_way files copies (gives (tables_after [] commits) target) (takes (tables_after [] commits) target) ≡ Some path) × (why ≡ reasons.Restore (restores.InTheWay path))
-IsPlannedTo commits files copies target (planned.Ready p) =
-    (in_the_way files copies (gives (tables_after [] commits) target) (takes (tables_after [] commits) target) ≡ None)
-    × IsPlanOf (tables_after [] commits) (without_lost (is_lost files (takes (tables_after [] commits) target)) target) (lost_cells (is_lost files (takes (tables_after [] commits) target)) target) p
+-- from the committed tables to a target, over these files and copies
+abbrev pub IsPlannedTo : Tables → Files → Copies → Tables → Planned → Type 0
+IsPlannedTo committed files copies target (planned.Refused why) =
+    (path : List ℕ) × (in_the_way files copies (gives committed target) (takes committed target) ≡ Some path) × (why ≡ reasons.Restore (restores.InTheWay path))
+IsPlannedTo committed files copies target (planned.Ready p) =
+    (in_the_way files copies (gives committed target) (takes committed target) ≡ None)
+    × IsPlanOf committed (without_lost (is_lost files (takes committed target)) target) (lost_cells (is_lost files (takes committed target)) target) p
 
 -- the owners have what a state has
 pub record HasOwned (s : State) (d : Database) (b : Saved) (f : Catalog) (a : Stock) (waiting : Option ℕ) : Type 0 where

@@ -173,8 +173,13 @@ pub(crate) fn with_handles(now: &Tables, handles: &List<Change>) -> Result<Table
     ensures { IfOk result (λ made. made ≡ applied now.now handles.now) }
 {
     let mut made = RoomyTables::of(now.copy()?);
-    put_all(&mut made, handles)?;
-    Ok(made.into_tables())
+    match put_all(&mut made, handles) {
+        Ok(()) => Ok(made.into_tables()),
+        Err(Memory) => {
+            drop(made);
+            Err(Memory)
+        }
+    }
 }
 
 fn put_all(tables: &mut RoomyTables, handles: &List<Change>) -> Result<(), Memory>

@@ -156,26 +156,54 @@ impl<'a> Losing<'a> {
         ensures { IfOk result (λ made. made ≡ without_lost (lost_by self.now) target.now) }
     {
         let mut made = RoomyTables::of(target.copy()?);
+        match self.set_tables(&mut made, target) {
+            Ok(()) => Ok(made.into_tables()),
+            Err(Memory) => {
+                drop(made);
+                Err(Memory)
+            }
+        }
+    }
+
+    // Puts each table without its lost cells in its place.
+    fn set_tables(&self, made: &mut RoomyTables, target: &Tables) -> Result<(), Memory>
+        requires { made.old.tables ≡ target.now }
+        ensures { OnOk result (made.new.tables ≡ without_lost (lost_by self.now) target.now) }
+    {
         for i in 0..target.len() {
             match target.at(i) {
                 Some((name, table)) => made.put(name, self.table_without(table)?),
-                None => return Ok(made.into_tables()),
+                None => return Ok(()),
             }
         }
-        Ok(made.into_tables())
+        Ok(())
     }
 
     fn table_without(&self, table: &Table) -> Result<Table, Memory>
         ensures { IfOk result (λ made. made ≡ table_without (lost_by self.now) table.now) }
     {
         let mut made = table.copy()?;
-        for i in 0..table.len() {
-            match table.at(i) {
-                Some((number, row)) => self.set_row(&mut made, table.columns(), number, row)?,
-                None => return Ok(made),
+        match self.set_rows(&mut made, table) {
+            Ok(()) => Ok(made),
+            Err(Memory) => {
+                drop(made);
+                Err(Memory)
             }
         }
-        Ok(made)
+    }
+
+    // Puts each row without its lost cells in its place.
+    fn set_rows(&self, made: &mut Table, table: &Table) -> Result<(), Memory>
+        requires { made.old ≡ table.now }
+        ensures { OnOk result (made.new ≡ table_without (lost_by self.now) table.now) }
+    {
+        for i in 0..table.len() {
+            match table.at(i) {
+                Some((number, row)) => self.set_row(made, table.columns(), number, row)?,
+                None => return Ok(()),
+            }
+        }
+        Ok(())
     }
 
     // Puts a row without its lost cells in its place, where it has such.

@@ -1,8 +1,9 @@
 // The plan of a restore.
-ghost use Rattle.std.specs.Prelude.{◌≡◌, IfOk};
+ghost use Rattle.std.specs.Prelude.{◌≡◌, [], IfOk};
 ghost use Rattle.std.specs.List.{list_any};
 ghost use Rattle.db_replay.specs.Applying.{AreNew};
 ghost use Rattle.db_replay.specs.Changes.{applied};
+ghost use Rattle.meaning_areas.specs.Commits.{tables_after};
 ghost use Rattle.meaning_merge.specs.Restoring.{is_lost, lost_cells, without_lost};
 ghost use Rattle.meaning_system.specs.State.{State};
 ghost use Rattle.bk_restore.specs.Planning.{HasOwned, IsPlanOf, IsPlanned, IsPlannedTo, tables_at};
@@ -81,14 +82,49 @@ fn plan_to(
     archive: &Archive,
     target: &Tables,
 ) -> Result<Planned, Memory>
-    ensures { IfOk result (IsPlannedTo store.now.rows.commits files.now.files archive.now.copies target.now) }
+    ensures { IfOk result (IsPlannedTo (tables_after [] store.now.rows.commits) files.now.files archive.now.copies target.now) }
 {
     let now = store.committed().copy()?;
-    let (gives, takes) = gives_takes(alloc, &now, target)?;
-    match in_the_way(alloc, files, archive, &gives, &takes)? {
+    let planned = plan_from(alloc, &now, files, archive, target);
+    drop(now);
+    planned
+}
+
+// The plan of a restore from these tables to those.
+fn plan_from(
+    alloc: Global,
+    now: &Tables,
+    files: &Files,
+    archive: &Archive,
+    target: &Tables,
+) -> Result<Planned, Memory>
+    ensures { IfOk result (IsPlannedTo now.now files.now.files archive.now.copies target.now) }
+{
+    let (gives, takes) = gives_takes(alloc, now, target)?;
+    let planned = plan_if_clear(alloc, now, files, archive, &gives, &takes, target);
+    drop(gives);
+    drop(takes);
+    planned
+}
+
+// The plan of a restore to a target to which these links are given and taken, unless something is in the way.
+fn plan_if_clear(
+    alloc: Global,
+    now: &Tables,
+    files: &Files,
+    archive: &Archive,
+    gives: &List<LinkRow>,
+    takes: &List<LinkRow>,
+    target: &Tables,
+) -> Result<Planned, Memory>
+    requires gives { gives.now ≡ meant.gives now.now target.now }
+    requires takes { takes.now ≡ meant.takes now.now target.now }
+    ensures { IfOk result (IsPlannedTo now.now files.now.files archive.now.copies target.now) }
+{
+    match in_the_way(alloc, files, archive, gives, takes)? {
         Some(path) => Ok(Planned::Refused(Refusal::Restore(RestoreRefusal::InTheWay(path)))),
         None => {
-            let plan = cleared(alloc, &now, files, &takes, target)?;
+            let plan = cleared(alloc, now, files, takes, target)?;
             Ok(Planned::Ready(plan))
         }
     }

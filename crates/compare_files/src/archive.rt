@@ -1,5 +1,5 @@
 // Whether archived copies fit what is committed.
-ghost use Rattle.std.specs.Prelude.{◌≡◌, ◌&&◌, List, [], IfOk};
+ghost use Rattle.std.specs.Prelude.{◌≡◌, ◌&&◌, List, [], IfOk, map};
 ghost use Rattle.std.specs.Bool.{Decides};
 ghost use Rattle.std.specs.FinMap as maps;
 ghost use Rattle.std.specs.List.{list_all};
@@ -43,16 +43,72 @@ pub fn archive_compares(
     ensures { IfOk result (λ fits. (f : Folds) → f.rows ≡ store.now.rows → f.links ≡ branches.now.links → f.files ≡ files.now.files → f.copies ≡ archive.now.copies → IsEvery f.rows.commits every.now → ComparesAt f areas.Links → Decides fits (ComparesAt f areas.Archive)) }
 {
     let settled = overlay_of(alloc, store, branches)?;
+    match gathered(alloc, store, archive) {
+        Ok(compared) => {
+            let sight = Sight {
+                settled: &settled,
+                files,
+                archive,
+                every,
+            };
+            let Compared {
+                stored,
+                linked,
+                numbers,
+            } = compared;
+            let fits = all_fit(store, branches, sight, &stored, &numbers, &linked);
+            drop(stored);
+            drop(linked);
+            drop(numbers);
+            drop(settled);
+            Ok(fits)
+        }
+        Err(Memory) => {
+            drop(settled);
+            Err(Memory)
+        }
+    }
+}
+
+// The links that have a copy, and those that are committed, with their numbers.
+#[derive(Drop)]
+struct Compared {
+    stored: List<LinkNo>,
+    linked: List<LinkRow>,
+    numbers: Numbers,
+}
+
+fn gathered(alloc: Global, store: &Store, archive: &Archive) -> Result<Compared, Memory>
+    ensures stored { IfOk result (λ c. map link_key c.stored ≡ maps.keys archive.now.copies) }
+    ensures linked { IfOk result (λ c. c.linked ≡ links (tables_after [] store.now.rows.commits)) }
+    ensures numbers { IfOk result (λ c. IsNumbersOf c.linked c.numbers.entries) }
+{
     let stored = archive.stored()?;
+    match numbered(alloc, store) {
+        Ok((linked, numbers)) => Ok(Compared {
+            stored,
+            linked,
+            numbers,
+        }),
+        Err(Memory) => {
+            drop(stored);
+            Err(Memory)
+        }
+    }
+}
+
+fn numbered(alloc: Global, store: &Store) -> Result<(List<LinkRow>, Numbers), Memory>
+    ensures linked { IfOk result (λ both. both.0 ≡ links (tables_after [] store.now.rows.commits)) }
+    ensures numbers { IfOk result (λ both. IsNumbersOf both.0 both.1.entries) }
+{
     let linked = committed_links(alloc, store)?;
-    let numbers = numbers(alloc, &linked)?;
-    let sight = Sight {
-        settled: &settled,
-        files,
-        archive,
-        every,
-    };
-    Ok(all_fit(store, branches, sight, &stored, &numbers, &linked))
+    match numbers(alloc, &linked) {
+        Ok(numbers) => Ok((linked, numbers)),
+        Err(Memory) => {
+            drop(linked);
+            Err(Memory)
+        }
+    }
 }
 
 // What the tests look at.

@@ -150,8 +150,16 @@ fn run<B: Bench>(alloc: Global, mut bench: B, given: Settings, script: &[u8]) ->
         Ok(mut engine) => {
             let mut sessions = Sessions::new(alloc);
             match run_lines(alloc, &mut engine, &mut sessions, &mut bench, script) {
-                Ok(()) => (Status::Done, bench),
-                Err(fault) => (step_end(fault), bench),
+                Ok(()) => {
+                    drop(sessions);
+                    drop(engine);
+                    (Status::Done, bench)
+                }
+                Err(fault) => {
+                    drop(sessions);
+                    drop(engine);
+                    (step_end(fault), bench)
+                }
             }
         }
         Err(fault) => (opening_end(fault), bench),

@@ -15,7 +15,7 @@ use crate::changes::Change;
 use crate::columns::columns_stand;
 use crate::rows::change_rows;
 use crate::standing::put_rows_stand;
-use dl_base::{Copied, List, Memory, Name};
+use dl_base::{Column, Copied, List, Memory, Name};
 use dl_codec::{RowChange, TableChange};
 use sql_table::{Table, Tables};
 use std::alloc::Global;
@@ -51,18 +51,32 @@ pub fn replay(
     ensures fit { IfOk result (λ later. IfSome later (λ r. Fits r.tables)) }
     ensures columns { IfOk result (λ later. IfSome later (λ r. ColumnsStand r.tables)) }
 {
-    let mut later = tables.copy()?;
-    let mut made = List::empty(alloc);
-    if !change_all(&mut later, &mut made, version, changes)? {
-        return Ok(None);
+    let mut later = Replayed {
+        tables: tables.copy()?,
+        changes: List::empty(alloc),
+    };
+    match change_all(&mut later.tables, &mut later.changes, version, changes) {
+        Ok(true) => {}
+        Ok(false) => {
+            drop(later);
+            return Ok(None);
+        }
+        Err(fault) => {
+            drop(later);
+            return Err(fault);
+        }
     }
-    if !put_rows_stand(alloc, &later, changes)? {
-        return Ok(None);
+    match put_rows_stand(alloc, &later.tables, changes) {
+        Ok(true) => Ok(Some(later)),
+        Ok(false) => {
+            drop(later);
+            Ok(None)
+        }
+        Err(fault) => {
+            drop(later);
+            Err(fault)
+        }
     }
-    Ok(Some(Replayed {
-        tables: later,
-        changes: made,
-    }))
 }
 
 // Does all changes, and keeps a handle of each; false where one does not apply, and then the tables are of no more use.
@@ -96,24 +110,55 @@ fn change_one(
     match change {
         TableChange::Dropped(name) => drop_table(tables, name),
         TableChange::New(name, columns, next, made) => {
-            if tables.table(name).is_some() {
-                return Ok(None);
-            }
-            if !columns_stand(columns) {
-                return Ok(None);
-            }
-            tables.add(name.copy()?, columns.copy()?)?;
-            match change_table(tables, version, name, *next, made)? {
-                Some(table) => Ok(Some(Change::New(name.copy()?, table))),
-                None => Ok(None),
-            }
+            make_table(tables, version, name, columns, *next, made)
         }
-        TableChange::Kept(name, next, made) => {
-            match change_table(tables, version, name, *next, made)? {
-                Some(table) => Ok(Some(Change::Kept(name.copy()?, table))),
-                None => Ok(None),
-            }
-        }
+        TableChange::Kept(name, next, made) => keep_table(tables, version, name, *next, made),
+    }
+}
+
+// Adds a table with its rows, where its name is free and its columns stand.
+fn make_table(
+    tables: &mut Tables,
+    version: u64,
+    name: &Name,
+    columns: &List<Column>,
+    next: u64,
+    rows: &List<RowChange>,
+) -> Result<Option<Change>, Memory>
+    ensures exact { IfOk result (λ made. with_table_change version tables.old (changes_of.New name.now columns.now next rows.now) ≡ then_some (is_some made) tables.new) }
+    ensures handle { IfOk result (λ made. IfSome made (λ h. (apply tables.old h ≡ tables.new) × (is_new tables.old h ≡ true))) }
+{
+    if tables.table(name).is_some() {
+        return Ok(None);
+    }
+    if !columns_stand(columns) {
+        return Ok(None);
+    }
+    tables.add(name.copy()?, columns.copy()?)?;
+    let kept = name.copy()?;
+    match change_table(tables, version, name, next, rows) {
+        Ok(Some(table)) => Ok(Some(Change::New(kept, table))),
+        Ok(None) => Ok(None),
+        Err(fault) => Err(fault),
+    }
+}
+
+// Changes the rows of the table of a name.
+fn keep_table(
+    tables: &mut Tables,
+    version: u64,
+    name: &Name,
+    next: u64,
+    rows: &List<RowChange>,
+) -> Result<Option<Change>, Memory>
+    ensures exact { IfOk result (λ made. with_table_change version tables.old (changes_of.Kept name.now next rows.now) ≡ then_some (is_some made) tables.new) }
+    ensures handle { IfOk result (λ made. IfSome made (λ h. (apply tables.old h ≡ tables.new) × (is_new tables.old h ≡ true))) }
+{
+    let kept = name.copy()?;
+    match change_table(tables, version, name, next, rows) {
+        Ok(Some(table)) => Ok(Some(Change::Kept(kept, table))),
+        Ok(None) => Ok(None),
+        Err(fault) => Err(fault),
     }
 }
 
@@ -146,10 +191,25 @@ fn change_table(
         None => return Ok(None),
     };
     table.set_version(version);
-    if !change_rows(&mut table, next, made)? {
-        return Ok(None);
+    match change_rows(&mut table, next, made) {
+        Ok(true) => {}
+        Ok(false) => {
+            drop(table);
+            return Ok(None);
+        }
+        Err(fault) => {
+            drop(table);
+            return Err(fault);
+        }
     }
-    let handle = table.copy()?;
-    let _ = tables.put(name, table);
-    Ok(Some(handle))
+    match table.copy() {
+        Ok(handle) => {
+            drop(tables.put(name, table));
+            Ok(Some(handle))
+        }
+        Err(fault) => {
+            drop(table);
+            Err(fault)
+        }
+    }
 }

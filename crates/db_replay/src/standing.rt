@@ -24,8 +24,18 @@ pub(crate) fn put_rows_stand(
     ensures { IfOk result (λ stand. fits tables.now ≡ (stand && fits (without_all tables.now changes.now))) }
 {
     let mut left = tables.copy()?;
+    let stand = take_all(alloc, &mut left, changes);
+    drop(left);
+    stand
+}
+
+// Takes the rows out that all changes name; false where one of them does not stand among those that are left.
+fn take_all(alloc: Global, left: &mut Tables, changes: &List<TableChange>) -> Result<bool, Memory>
+    requires { ColumnsStand left.old }
+    ensures { IfOk result (λ stand. fits left.old ≡ (stand && fits (without_all left.old changes.now))) }
+{
     for change in changes.as_slice() {
-        if !take_changed(alloc, &mut left, change)? {
+        if !take_changed(alloc, left, change)? {
             return Ok(false);
         }
     }

@@ -34,10 +34,17 @@ pub fn fold(alloc: Global, bodies: &List<Text>) -> Result<History, BeginFault>
     let mut history = History::empty(alloc);
     let mut place: u64 = 0;
     for body in bodies.as_slice() {
-        if !take_record(alloc, &mut history, body.bytes())? {
-            return Err(BeginFault::NotAJournal(place));
+        match take_record(alloc, &mut history, body.bytes()) {
+            Ok(true) => place += 9 + body.len() as u64,
+            Ok(false) => {
+                drop(history);
+                return Err(BeginFault::NotAJournal(place));
+            }
+            Err(Memory) => {
+                drop(history);
+                return Err(BeginFault::Memory);
+            }
         }
-        place += 9 + body.len() as u64;
     }
     Ok(history)
 }

@@ -83,7 +83,8 @@ impl Txn {
         ensures ok { OnOk result (self.new ≡ begun self.old.session tx tables.now) }
         ensures err { OnErr result (self.new ≡ self.old) }
     {
-        *self = fresh(self.alloc, self.session, tx, tables)?;
+        let begun = fresh(self.alloc, self.session, tx, tables)?;
+        drop(mem::replace(self, begun));
         Ok(())
     }
 
@@ -99,10 +100,11 @@ impl Txn {
     {
         let (outcome, work) = evaluated(self.alloc, &self.work, stmt, context)?;
         let found = mem::replace(&mut self.work, work);
-        self.kept = Some(Before {
+        let before = Before {
             outcome,
             work: found,
-        });
+        };
+        drop(mem::replace(&mut self.kept, Some(before)));
         Ok(())
     }
 
@@ -122,7 +124,8 @@ impl Txn {
     pub fn back(&mut self)
         ensures { self.new ≡ back_to self.old self.old.kept }
     {
-        if let Some(Before { work, .. }) = mem::replace(&mut self.kept, None) {
+        if let Some(Before { outcome, work }) = mem::replace(&mut self.kept, None) {
+            drop(outcome);
             self.work.take_back(work);
         }
     }
@@ -131,8 +134,9 @@ impl Txn {
     pub fn undo(&mut self)
         ensures { self.new ≡ undone_to self.old self.old.kept }
     {
-        if let Some(Before { work, .. }) = mem::replace(&mut self.kept, None) {
-            self.work = work;
+        if let Some(Before { outcome, work }) = mem::replace(&mut self.kept, None) {
+            drop(outcome);
+            drop(mem::replace(&mut self.work, work));
         }
     }
 
@@ -144,7 +148,10 @@ impl Txn {
         ensures stands { self.new ≡ standing self.old }
     {
         match mem::replace(&mut self.kept, None) {
-            Some(Before { outcome, .. }) => Some(outcome),
+            Some(Before { outcome, work }) => {
+                drop(work);
+                Some(outcome)
+            }
             None => None,
         }
     }
@@ -237,7 +244,7 @@ impl Txn {
     pub fn clear(&mut self)
         ensures { self.new ≡ vacant self.old.session }
     {
-        *self = Txn::vacant(self.alloc, self.session);
+        drop(mem::replace(self, Txn::vacant(self.alloc, self.session)));
     }
 }
 
@@ -248,14 +255,19 @@ fn fresh(alloc: Global, session: u32, tx: u64, tables: &Tables) -> Result<Txn, M
     ensures { IfOk result (λ made. made ≡ begun session tx tables.now) }
 {
     let base = tables.copy()?;
-    let copy = tables.copy()?;
-    Ok(Txn {
-        alloc,
-        session,
-        tx: Some(tx),
-        base,
-        work: Work::begun(alloc, copy),
-        made: false,
-        kept: None,
-    })
+    match tables.copy() {
+        Ok(copy) => Ok(Txn {
+            alloc,
+            session,
+            tx: Some(tx),
+            base,
+            work: Work::begun(alloc, copy),
+            made: false,
+            kept: None,
+        }),
+        Err(Memory) => {
+            drop(base);
+            Err(Memory)
+        }
+    }
 }

@@ -19,6 +19,7 @@ use meaning_sql::Context;
 use sql_run::{Evaluation, Outcome, evaluate};
 use sql_table::Tables;
 use std::alloc::Global;
+use std::mem;
 
 /// The copy of the tables, the tables that statements named, the next count of link numbers, and the rows that were touched.
 #[derive(Drop)]
@@ -55,25 +56,47 @@ impl Work {
     {
         let Work {
             copy,
+            named,
             next,
             touched,
-            ..
         } = found;
-        self.copy = copy;
+        drop(named);
+        drop(mem::replace(&mut self.copy, copy));
         self.next = next;
-        self.touched = touched;
+        drop(mem::replace(&mut self.touched, touched));
     }
 
     // The same once more, which shares its rows with this.
     fn share(&self) -> Result<Work, Memory>
         ensures { IfOk result (λ made. made ≡ self.now) }
     {
-        Ok(Work {
-            copy: self.copy.copy()?,
-            named: self.named.copy()?,
-            next: self.next,
-            touched: self.touched.share()?,
-        })
+        let copy = self.copy.copy()?;
+        match self.share_notes() {
+            Ok((named, touched)) => Ok(Work {
+                copy,
+                named,
+                next: self.next,
+                touched,
+            }),
+            Err(Memory) => {
+                drop(copy);
+                Err(Memory)
+            }
+        }
+    }
+
+    // What statements named and touched, once more.
+    fn share_notes(&self) -> Result<(List<Name>, TouchedRows), Memory>
+        ensures { IfOk result (λ made. (made.0 ≡ self.now.named) × (made.1 ≡ self.now.touched)) }
+    {
+        let named = self.named.copy()?;
+        match self.touched.share() {
+            Ok(touched) => Ok((named, touched)),
+            Err(Memory) => {
+                drop(named);
+                Err(Memory)
+            }
+        }
     }
 }
 
@@ -93,8 +116,13 @@ pub(crate) fn evaluated(
     ensures work { IfOk result (λ made. (base : TablesOf) → IsWorkOn base work.now → IsWorkOn base made.1) }
 {
     let mut made = work.share()?;
-    let outcome = carry_out(alloc, &mut made, stmt, context)?;
-    Ok((outcome, made))
+    match carry_out(alloc, &mut made, stmt, context) {
+        Ok(outcome) => Ok((outcome, made)),
+        Err(Memory) => {
+            drop(made);
+            Err(Memory)
+        }
+    }
 }
 
 // Carries out a statement; after an error the work is not to be used.
@@ -120,8 +148,15 @@ fn carry_out(
         context,
         &mut work.next,
     )?;
-    put_touched(alloc, &mut work.touched, stmt, touched.as_slice())?;
-    Ok(outcome)
+    let put = put_touched(alloc, &mut work.touched, stmt, touched.as_slice());
+    drop(touched);
+    match put {
+        Ok(()) => Ok(outcome),
+        Err(Memory) => {
+            drop(outcome);
+            Err(Memory)
+        }
+    }
 }
 
 // Names differ, as tables tell with their count.

@@ -1,7 +1,7 @@
 -- What pages are seen as: the list of their items, beside how high they stand.
 use Rattle.std.specs.Prelude.{◌≡◌, ℕ, ◌+◌, ◌<◌, Bool, List, [], ◌∷◌, ◌++◌, length}
-use Rattle.dl_pages.specs.declared.pages.Below.{Below}
-use Rattle.dl_pages.specs.declared.pages.Below.TheVariants as below
+use Rattle.dl_pages.specs.declared.tree.Below.{Below}
+use Rattle.dl_pages.specs.declared.tree.Below.TheVariants as below
 
 -- the items of parts, one part after another
 abbrev pub flatten : {T : Type 0} → List (List T × ℕ) → List T

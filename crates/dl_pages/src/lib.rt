@@ -2,13 +2,17 @@
 #![tactic(auto)]
 
 mod entries;
+mod leaves;
 mod members;
 mod order;
 mod pages;
+mod predicate;
 mod ranks;
+mod tree;
 
 pub use entries::{Probe, least};
 pub use members::{with_member, without_member};
 pub use order::Ordered;
-pub use pages::{Pages, Predicate};
+pub use pages::Pages;
+pub use predicate::Predicate;
 pub use ranks::Ranked;

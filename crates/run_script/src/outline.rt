@@ -189,7 +189,11 @@ fn step_line(name: Name, before: usize, step: Sentence, text: &[u8], at: usize) 
     ensures within { (len : ℕ) → IsWithin len result }
 {
     match next_word(text, at) {
-        Ok(word) => Outline::Plain(bad_at((word.begin + 1 + before) as u64)),
+        Ok(word) => {
+            drop(name);
+            drop(step);
+            Outline::Plain(bad_at((word.begin + 1 + before) as u64))
+        }
         Err(_) => Outline::Plain(Line::Session(name, step)),
     }
 }

@@ -126,7 +126,7 @@ fn put_in_place(tables: &mut Tables, name: &Name, made: Outcome, next_link: &mut
         count,
         touched,
     } = made;
-    let _ = tables.put(name, table);
+    drop(tables.put(name, table));
     *next_link = next;
     Changed { count, touched }
 }

@@ -13,11 +13,25 @@ use std::alloc::Global;
 
 /// The columns of a table, in order: `Ambiguous` for a name that stood before, `TooLong` for a length outside 1 to 4,000 bytes,
 /// `BadOptions` for options and rules that do not fit, or `Memory`.
-#[tactic(auto, using(crate::proofs::Reversed::any_named))]
 pub(crate) fn columns_made(alloc: Global, defs: &List<ColumnDef>) -> Result<List<Column>, SqlFault>
     ensures { Computes (λ c. c) result (meant.columns_made [] false defs.now) }
 {
     let mut made = List::empty(alloc);
+    match put_columns(&mut made, defs) {
+        Ok(()) => Ok(made),
+        Err(fault) => {
+            drop(made);
+            Err(fault)
+        }
+    }
+}
+
+// Puts the columns into a list that has none.
+#[tactic(auto, using(crate::proofs::Reversed::any_named))]
+fn put_columns(made: &mut List<Column>, defs: &List<ColumnDef>) -> Result<(), SqlFault>
+    requires { made.old ≡ [] }
+    ensures { Computes (λ put. made.new) result (meant.columns_made [] false defs.now) }
+{
     let mut keyed = false;
     for def in defs.as_slice() {
         if stands(made.as_slice(), &def.name) {
@@ -33,7 +47,7 @@ pub(crate) fn columns_made(alloc: Global, defs: &List<ColumnDef>) -> Result<List
         made.push(column_made(def, kind)?)?;
         keyed = is_keyed(keyed, def);
     }
-    Ok(made)
+    Ok(())
 }
 
 fn column_made(def: &ColumnDef, kind: Kind) -> Result<Column, Memory>

@@ -1,7 +1,6 @@
 // INSERT: the rows of its tuples, and the table with them.
-ghost use Rattle.std.specs.Prelude.{◌≡◌, ◌+◌, ◌≤◌, All, IfOk, IfErr, Some, is_some, length, slice_get, suc, true};
+ghost use Rattle.std.specs.Prelude.{◌≡◌, ◌+◌, ◌≤◌, All, IfOk, OnOk, Some, is_some, length, slice_get, suc, true};
 ghost use Rattle.dl_base.specs.Limits.{link_numbers, most_rows, row_numbers};
-ghost use Rattle.dl_base.specs.declared.sql_fault.SqlFault.TheVariants as faults;
 ghost use Rattle.dl_base.specs.declared.value.Value.{Value as ValueOf};
 ghost use Rattle.meaning_sql.specs.Faults.{Computes};
 ghost use Rattle.meaning_statements.specs.Changing as meant;
@@ -186,7 +185,7 @@ fn numbers_from(alloc: Global, first: u64, count: u64) -> Result<List<u64>, Memo
     Ok(numbers)
 }
 
-// A table with more rows, where the keys differ: one key column is asked of the index, several are looked at row by row.
+// A copy of the table with more rows, where the keys differ; the copy shares what it has with the table.
 fn with_new_rows(alloc: Global, table: &Table, more: List<Row>) -> Result<Table, SqlFault>
     requires few { length table.now.rows + length more ≤ most_rows }
     requires small { table.now.next + length more ≤ row_numbers }
@@ -195,49 +194,69 @@ fn with_new_rows(alloc: Global, table: &Table, more: List<Row>) -> Result<Table,
     ensures table { IfOk result (λ made. made ≡ parts.grown_table table.now (counted table.now.next more) (length more)) }
     ensures keys { Computes (λ made. true) result (keys_hold (parts.grown_table table.now (counted table.now.next more) (length more))) }
 {
-    match only_key(table.columns().as_slice()) {
-        Some(place) => with_keyed_rows(table, place, more),
-        None => {
-            let made = with_rows(table, more)?;
-            check_keys(alloc, &made)?;
-            Ok(made)
+    match table.copy() {
+        Ok(mut made) => match put_new_rows(alloc, &mut made, more) {
+            Ok(()) => Ok(made),
+            Err(fault) => {
+                drop(made);
+                Err(fault)
+            }
+        },
+        Err(fault) => {
+            drop(more);
+            Err(fault.into())
         }
     }
 }
 
-// A copy of the table with more rows; the copy shares what it has with the table.
-fn with_rows(table: &Table, more: List<Row>) -> Result<Table, SqlFault>
-    requires few { length table.now.rows + length more ≤ most_rows }
-    requires small { table.now.next + length more ≤ row_numbers }
-    ensures table { IfOk result (λ made. made ≡ parts.grown_table table.now (counted table.now.next more) (length more)) }
-    ensures memory { IfErr result (λ e. e ≡ faults.Memory) }
+// Puts more rows into a table, where the keys differ: one key column is asked of the index, several are looked at row by row.
+fn put_new_rows(alloc: Global, made: &mut Table, more: List<Row>) -> Result<(), SqlFault>
+    requires few { length made.old.rows + length more ≤ most_rows }
+    requires small { made.old.next + length more ≤ row_numbers }
+    requires fits { table_fits made.old ≡ true }
+    requires wide { All (λ r. length r.values ≡ length made.old.columns) more }
+    ensures table { OnOk result (made.new ≡ parts.grown_table made.old (counted made.old.next more) (length more)) }
+    ensures keys { Computes (λ put. true) result (keys_hold (parts.grown_table made.old (counted made.old.next more) (length more))) }
 {
-    let mut made = table.copy()?;
+    match only_key(made.columns().as_slice()) {
+        Some(place) => put_keyed_rows(made, place, more),
+        None => {
+            put_rows(made, more)?;
+            check_keys(alloc, made)
+        }
+    }
+}
+
+// Puts more rows into a table.
+fn put_rows(made: &mut Table, more: List<Row>) -> Result<(), Memory>
+    requires few { length made.old.rows + length more ≤ most_rows }
+    requires small { made.old.next + length more ≤ row_numbers }
+    ensures { OnOk result (made.new ≡ parts.grown_table made.old (counted made.old.next more) (length more)) }
+{
     for row in more.into_vec() {
         made.put_next(row)?;
     }
-    Ok(made)
+    Ok(())
 }
 
 // The same where each row's key, at one place, is new.
-fn with_keyed_rows(table: &Table, place: usize, more: List<Row>) -> Result<Table, SqlFault>
-    requires few { length table.now.rows + length more ≤ most_rows }
-    requires small { table.now.next + length more ≤ row_numbers }
-    requires key { IsKeyAt table.now.columns place }
-    requires fits { table_fits table.now ≡ true }
-    requires wide { All (λ r. length r.values ≡ length table.now.columns) more }
-    ensures table { IfOk result (λ made. made ≡ parts.grown_table table.now (counted table.now.next more) (length more)) }
-    ensures keys { Computes (λ made. true) result (keys_hold (parts.grown_table table.now (counted table.now.next more) (length more))) }
+fn put_keyed_rows(made: &mut Table, place: usize, more: List<Row>) -> Result<(), SqlFault>
+    requires few { length made.old.rows + length more ≤ most_rows }
+    requires small { made.old.next + length more ≤ row_numbers }
+    requires key { IsKeyAt made.old.columns place }
+    requires fits { table_fits made.old ≡ true }
+    requires wide { All (λ r. length r.values ≡ length made.old.columns) more }
+    ensures table { OnOk result (made.new ≡ parts.grown_table made.old (counted made.old.next more) (length more)) }
+    ensures keys { Computes (λ put. true) result (keys_hold (parts.grown_table made.old (counted made.old.next more) (length more))) }
 {
-    let mut made = table.copy()?;
     for row in more.into_vec() {
-        if stands(&made, place, &row) {
+        if stands(made, place, &row) {
             drop(row);
             return Err(SqlFault::DupKey(made.next_number()));
         }
         made.put_next(row)?;
     }
-    Ok(made)
+    Ok(())
 }
 
 // Whether the value of a row at the place of the key is a key of the table.

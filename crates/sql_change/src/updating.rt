@@ -141,7 +141,13 @@ fn replaced(alloc: Global, made: Updated, differ: bool) -> Result<Outcome, SqlFa
     ensures same { IfOk result (λ m. (m.table ≡ made.table) × (m.count ≡ made.met) × (m.touched ≡ made.numbers)) }
 {
     if !differ {
-        check_keys(alloc, &made.table)?;
+        match check_keys(alloc, &made.table) {
+            Ok(()) => {}
+            Err(fault) => {
+                drop(made);
+                return Err(fault);
+            }
+        }
     }
     Ok(Outcome {
         table: made.table,

@@ -1,5 +1,5 @@
 // The rows that INSERT puts in, and tables after UPDATE and DELETE.
-ghost use Rattle.std.specs.Prelude.{◌≡◌, ◌≤◌, ◌+◌, ◌∷◌, All, IfErr, IfOk, Ok, [], is_some, length, map, suc, true};
+ghost use Rattle.std.specs.Prelude.{◌≡◌, ◌≤◌, ◌+◌, ◌∷◌, All, IfErr, IfOk, Ok, OnOk, [], is_some, length, map, suc, true};
 ghost use Rattle.dl_base.specs.Limits.{link_numbers};
 ghost use Rattle.dl_base.specs.declared.sql_fault.SqlFault.TheVariants as faults;
 ghost use Rattle.meaning_sql.specs.Columns.{Columns as ColumnsOf};
@@ -188,7 +188,9 @@ fn delete_each(
     ensures told { IfOk result (λ d. length d.table.rows + length d.removed ≡ length table.now.rows) }
 {
     let bound = Filter::new(alloc, filter, columns)?;
-    delete_met(alloc, table, context, &bound)
+    let made = delete_met(alloc, table, context, &bound);
+    drop(bound);
+    made
 }
 
 // The same, the columns of the condition having places.
@@ -205,6 +207,35 @@ fn delete_met(
 {
     let mut left = table.copy()?;
     let mut removed = List::empty(alloc);
+    match unset_met(alloc, table, context, filter, &mut left, &mut removed) {
+        Ok(()) => Ok(Deleted {
+            table: left,
+            removed,
+        }),
+        Err(fault) => {
+            drop(removed);
+            drop(left);
+            Err(fault)
+        }
+    }
+}
+
+// Takes the rows that are met out of a copy of the table, and puts down their numbers.
+fn unset_met(
+    alloc: Global,
+    table: &Table,
+    context: &Context,
+    filter: &Filter,
+    left: &mut Table,
+    removed: &mut List<u64>,
+) -> Result<(), SqlFault>
+    requires copied { left.old ≡ table.now }
+    requires none { removed.old ≡ [] }
+    ensures rows { Computes (λ _. left.new.rows) result (meant.remaining filter.now.columns context.entry.now (option_list filter.now.condition) table.now.rows) }
+    ensures others { OnOk result (left.new ≡ record table.now { rows = left.new.rows }) }
+    ensures beside { OnOk result (RowsAgreeBeside removed.new table.now.rows left.new.rows) }
+    ensures told { OnOk result (length left.new.rows + length removed.new ≡ length table.now.rows) }
+{
     for i in 0..table.len() {
         match table.at(i) {
             Some((number, row)) => {
@@ -215,18 +246,10 @@ fn delete_met(
                 removed.push(number)?;
                 left.unset(number)?;
             }
-            None => {
-                return Ok(Deleted {
-                    table: left,
-                    removed,
-                });
-            }
+            None => return Ok(()),
         }
     }
-    Ok(Deleted {
-        table: left,
-        removed,
-    })
+    Ok(())
 }
 
 // The same where the row of a number alone may be met.
@@ -275,12 +298,30 @@ fn without_one(alloc: Global, table: &Table, number: u64) -> Result<Deleted, Mem
     ensures told { IfOk result (λ d. length d.table.rows + length d.removed ≡ length table.now.rows) }
 {
     let removed = only(alloc, number)?;
+    match without(table, number) {
+        Ok(left) => Ok(Deleted {
+            table: left,
+            removed,
+        }),
+        Err(Memory) => {
+            drop(removed);
+            Err(Memory)
+        }
+    }
+}
+
+// A copy of a table without the row of a number, if there is one.
+fn without(table: &Table, number: u64) -> Result<Table, Memory>
+    ensures { IfOk result (λ left. left ≡ record table.now { rows = without_row table.now.rows number }) }
+{
     let mut left = table.copy()?;
-    left.unset(number)?;
-    Ok(Deleted {
-        table: left,
-        removed,
-    })
+    match left.unset(number) {
+        Ok(_) => Ok(left),
+        Err(Memory) => {
+            drop(left);
+            Err(Memory)
+        }
+    }
 }
 
 fn only(alloc: Global, number: u64) -> Result<List<u64>, Memory>
@@ -457,8 +498,18 @@ fn update_each(
     ensures told { IfOk result (λ u. length u.numbers ≡ u.met) }
 {
     let bound = Filter::new(alloc, filter, all)?;
-    let rights = bound_sets(alloc, sets, all)?;
-    update_met(alloc, table, context, &bound, places, &rights, first)
+    match bound_sets(alloc, sets, all) {
+        Ok(rights) => {
+            let made = update_met(alloc, table, context, &bound, places, &rights, first);
+            drop(rights);
+            drop(bound);
+            made
+        }
+        Err(Memory) => {
+            drop(bound);
+            Err(SqlFault::Memory)
+        }
+    }
 }
 
 // The same, the columns of the condition and of the right sides having places.
@@ -482,6 +533,54 @@ fn update_met(
 {
     let mut made = table.copy()?;
     let mut numbers = List::empty(alloc);
+    match set_met(
+        alloc,
+        table,
+        context,
+        filter,
+        places,
+        rights,
+        first,
+        &mut made,
+        &mut numbers,
+    ) {
+        Ok((next, met)) => Ok(Updated {
+            table: made,
+            next,
+            met,
+            touched: KeyRows::All,
+            numbers,
+        }),
+        Err(fault) => {
+            drop(numbers);
+            drop(made);
+            Err(fault)
+        }
+    }
+}
+
+// Sets the rows that are met in a copy of the table, and puts down their numbers: the next link number, and how many were met.
+fn set_met(
+    alloc: Global,
+    table: &Table,
+    context: &Context,
+    filter: &Filter,
+    places: &List<usize>,
+    rights: &List<Bound>,
+    first: u32,
+    made: &mut Table,
+    numbers: &mut List<u64>,
+) -> Result<(u32, u64), SqlFault>
+    requires numbers { first ≤ link_numbers }
+    requires rights { AreIn filter.now.columns rights.now }
+    requires copied { made.old ≡ table.now }
+    requires none { numbers.old ≡ [] }
+    ensures put { Computes (λ u. (made.new.rows, (u.0, u.1))) result (meant.updated_rows filter.now.columns context.entry.now table.now.columns (option_list filter.now.condition) places.now (map (λ b. b.expr) rights.now) first table.now.rows) }
+    ensures others { OnOk result (made.new ≡ record table.now { rows = made.new.rows }) }
+    ensures few { IfOk result (λ u. u.0 ≤ link_numbers) }
+    ensures beside { OnOk result (RowsAgreeBeside numbers.new table.now.rows made.new.rows) }
+    ensures told { IfOk result (λ u. length numbers.new ≡ u.1) }
+{
     let mut k = first;
     let mut met = 0;
     for i in 0..table.len() {
@@ -497,24 +596,10 @@ fn update_met(
                 k = put.next;
                 met += 1;
             }
-            None => {
-                return Ok(Updated {
-                    table: made,
-                    next: k,
-                    met,
-                    touched: KeyRows::All,
-                    numbers,
-                });
-            }
+            None => return Ok((k, met)),
         }
     }
-    Ok(Updated {
-        table: made,
-        next: k,
-        met,
-        touched: KeyRows::All,
-        numbers,
-    })
+    Ok((k, met))
 }
 
 // The same where the row of a number alone may be met.
@@ -570,16 +655,40 @@ fn set_one(alloc: Global, table: &Table, number: u64, put: PutRow) -> Result<Upd
     ensures told { IfOk result (λ u. length u.numbers ≡ u.met) }
     ensures memory { IfErr result (λ e. e ≡ faults.Memory) }
 {
-    let mut made = table.copy()?;
-    made.set(number, Row { values: put.values })?;
-    let numbers = only(alloc, number)?;
-    Ok(Updated {
-        table: made,
-        next: put.next,
-        met: 1,
-        touched: KeyRows::One(number),
-        numbers,
-    })
+    let next = put.next;
+    let made = with_values(table, number, put.values)?;
+    match only(alloc, number) {
+        Ok(numbers) => Ok(Updated {
+            table: made,
+            next,
+            met: 1,
+            touched: KeyRows::One(number),
+            numbers,
+        }),
+        Err(Memory) => {
+            drop(made);
+            Err(SqlFault::Memory)
+        }
+    }
+}
+
+// A copy of a table with other values in the row of a number, if there is one.
+fn with_values(table: &Table, number: u64, values: List<Value>) -> Result<Table, Memory>
+    ensures { IfOk result (λ made. made ≡ record table.now { rows = with_row table.now.rows number (record { values = values }) }) }
+{
+    match table.copy() {
+        Ok(mut made) => match made.set(number, Row { values }) {
+            Ok(_) => Ok(made),
+            Err(Memory) => {
+                drop(made);
+                Err(Memory)
+            }
+        },
+        Err(Memory) => {
+            drop(values);
+            Err(Memory)
+        }
+    }
 }
 
 // What is made of a table of which no row is met.

@@ -1,5 +1,6 @@
 -- What a table keeps of its rows, as they come, change and go.
-use Rattle.std.proofs.Common.{◌≡◌, ℕ, ◌+◌, Some, List, [], ◌∷◌, ◌++◌, sym, subst, arith}
+use Rattle.std.proofs.Common.{◌≡◌, ℕ, ◌+◌, Some, List, [], ◌∷◌, ◌++◌, Result, Ok, IfOk, sym, subst, arith}
+use Rattle.std.proofs.lemmas.Result.{IfOk-at_ok}
 use Rattle.dl_base.specs.declared.column.Column.{Column}
 use Rattle.dl_base.specs.declared.value.LinkNo.{LinkNo}
 use Rattle.dl_base.specs.declared.value.Row.{Row}
@@ -42,3 +43,9 @@ kept_removed columns next number rows after links new keys renewed before old pa
       links = index_removed link_order (link_marks columns) next number rows before links new kept.rise at kept.links (subst (λ ms. WithoutMarks link_order ms number links new) was less);
       keys = index_removed key_order (key_marks columns) next number rows before keys renewed kept.rise at kept.keys (subst (λ ms. WithoutMarks key_order ms number keys renewed) were minus);
     })
+
+-- rows that were made, beside the indexes that stood before them
+pub kept_joined : {E : Type 0} (columns : List Column) (next : ℕ) (made : Result (List (ℕ × Row)) E) (indexes : List (LinkNo × ℕ) × List (Key × ℕ)) (rows : List (ℕ × Row)) (links : List (LinkNo × ℕ)) (keys : List (Key × ℕ))
+    → (made ≡ Ok rows) × (indexes ≡ (links, keys)) → IfOk made (λ rs. IsKept columns next rs indexes.0 indexes.1) → IsKept columns next rows links keys
+kept_joined columns next made indexes rows links keys are kept =
+    subst (λ (i : List (LinkNo × ℕ) × List (Key × ℕ)). IsKept columns next rows i.0 i.1) are.1 (IfOk-at_ok (λ rs. IsKept columns next rs indexes.0 indexes.1) are.0 kept)

@@ -16,8 +16,11 @@ use dl_pages::{Ordered, Pages, with_member, without_member};
 use std::alloc::Global;
 use std::cmp::Ordering;
 
+/// The numbers of rows by link and by key.
+pub(crate) type Indexes = (Pages<(LinkNo, u64)>, Pages<(Key, u64)>);
+
 /// The index with marks under a number.
-pub(crate) fn with_marks<K: Ordered + Copied>(
+fn with_marks<K: Ordered + Copied>(
     alloc: Global,
     index: &Pages<(K, u64)>,
     marks: List<K>,
@@ -34,7 +37,7 @@ pub(crate) fn with_marks<K: Ordered + Copied>(
 }
 
 /// The index without marks under a number.
-pub(crate) fn without_marks<K: Ordered + Copied>(
+fn without_marks<K: Ordered + Copied>(
     alloc: Global,
     index: &Pages<(K, u64)>,
     marks: List<K>,
@@ -91,7 +94,7 @@ fn is_equal<K: Ordered>(mark: &K, other: &K) -> bool
 }
 
 /// The index with the link numbers of a row.
-pub(crate) fn with_row_links(
+fn with_row_links(
     alloc: Global,
     columns: &List<Column>,
     index: &Pages<(LinkNo, u64)>,
@@ -105,7 +108,7 @@ pub(crate) fn with_row_links(
 }
 
 /// The index with the keys of a row.
-pub(crate) fn with_row_keys(
+fn with_row_keys(
     alloc: Global,
     columns: &List<Column>,
     index: &Pages<(Key, u64)>,
@@ -119,7 +122,7 @@ pub(crate) fn with_row_keys(
 }
 
 /// The index with the link numbers of a row in the place of those of another.
-pub(crate) fn with_other_links(
+fn with_other_links(
     alloc: Global,
     columns: &List<Column>,
     index: &Pages<(LinkNo, u64)>,
@@ -135,7 +138,7 @@ pub(crate) fn with_other_links(
 }
 
 /// The index with the keys of a row in the place of those of another.
-pub(crate) fn with_other_keys(
+fn with_other_keys(
     alloc: Global,
     columns: &List<Column>,
     index: &Pages<(Key, u64)>,
@@ -150,9 +153,110 @@ pub(crate) fn with_other_keys(
     with_other_marks(alloc, index, old, row_keys(columns, row)?, number)
 }
 
+/// The index without the link numbers of a row.
+fn without_row_links(
+    alloc: Global,
+    columns: &List<Column>,
+    index: &Pages<(LinkNo, u64)>,
+    row: &Row,
+    number: u64,
+) -> Result<Pages<(LinkNo, u64)>, Memory>
+    requires { IsStrictlySortedBy (entry_order link_order) index.now }
+    ensures { IfOk result (λ made. WithoutMarks link_order (link_marks columns.now row.now) number index.now made) }
+{
+    without_marks(alloc, index, row_marks(columns, row)?, number)
+}
+
+/// The index without the keys of a row.
+fn without_row_keys(
+    alloc: Global,
+    columns: &List<Column>,
+    index: &Pages<(Key, u64)>,
+    row: &Row,
+    number: u64,
+) -> Result<Pages<(Key, u64)>, Memory>
+    requires { IsStrictlySortedBy (entry_order key_order) index.now }
+    ensures { IfOk result (λ made. WithoutMarks key_order (key_marks columns.now row.now) number index.now made) }
+{
+    without_marks(alloc, index, row_keys(columns, row)?, number)
+}
+
+/// The indexes with the link numbers and the keys of a row.
+pub(crate) fn with_entries(
+    alloc: Global,
+    columns: &List<Column>,
+    links: &Pages<(LinkNo, u64)>,
+    keys: &Pages<(Key, u64)>,
+    row: &Row,
+    number: u64,
+) -> Result<Indexes, Memory>
+    requires links { IsStrictlySortedBy (entry_order link_order) links.now }
+    requires keys { IsStrictlySortedBy (entry_order key_order) keys.now }
+    ensures links { IfOk result (λ made. WithMarks link_order (link_marks columns.now row.now) number links.now made.0) }
+    ensures keys { IfOk result (λ made. WithMarks key_order (key_marks columns.now row.now) number keys.now made.1) }
+{
+    let links = with_row_links(alloc, columns, links, row, number)?;
+    match with_row_keys(alloc, columns, keys, row, number) {
+        Ok(keys) => Ok((links, keys)),
+        Err(fault) => {
+            drop(links);
+            Err(fault)
+        }
+    }
+}
+
+/// The indexes with the link numbers and the keys of a row in the place of those of another.
+pub(crate) fn with_other_entries(
+    alloc: Global,
+    columns: &List<Column>,
+    links: &Pages<(LinkNo, u64)>,
+    keys: &Pages<(Key, u64)>,
+    before: &Row,
+    row: &Row,
+    number: u64,
+) -> Result<Indexes, Memory>
+    requires links { IsStrictlySortedBy (entry_order link_order) links.now }
+    requires keys { IsStrictlySortedBy (entry_order key_order) keys.now }
+    ensures links { IfOk result (λ made. OtherMarks link_order (link_marks columns.now before.now) (link_marks columns.now row.now) number links.now made.0) }
+    ensures keys { IfOk result (λ made. OtherMarks key_order (key_marks columns.now before.now) (key_marks columns.now row.now) number keys.now made.1) }
+{
+    let links = with_other_links(alloc, columns, links, before, row, number)?;
+    match with_other_keys(alloc, columns, keys, before, row, number) {
+        Ok(keys) => Ok((links, keys)),
+        Err(fault) => {
+            drop(links);
+            Err(fault)
+        }
+    }
+}
+
+/// The indexes without the link numbers and the keys of a row.
+pub(crate) fn without_entries(
+    alloc: Global,
+    columns: &List<Column>,
+    links: &Pages<(LinkNo, u64)>,
+    keys: &Pages<(Key, u64)>,
+    row: &Row,
+    number: u64,
+) -> Result<Indexes, Memory>
+    requires links { IsStrictlySortedBy (entry_order link_order) links.now }
+    requires keys { IsStrictlySortedBy (entry_order key_order) keys.now }
+    ensures links { IfOk result (λ made. WithoutMarks link_order (link_marks columns.now row.now) number links.now made.0) }
+    ensures keys { IfOk result (λ made. WithoutMarks key_order (key_marks columns.now row.now) number keys.now made.1) }
+{
+    let links = without_row_links(alloc, columns, links, row, number)?;
+    match without_row_keys(alloc, columns, keys, row, number) {
+        Ok(keys) => Ok((links, keys)),
+        Err(fault) => {
+            drop(links);
+            Err(fault)
+        }
+    }
+}
+
 /// The link numbers of a row.
 #[tactic(auto, using(crate::proofs::First::no_marks_past_the_end))]
-pub(crate) fn row_marks(columns: &List<Column>, row: &Row) -> Result<List<LinkNo>, Memory>
+fn row_marks(columns: &List<Column>, row: &Row) -> Result<List<LinkNo>, Memory>
     ensures { IfOk result (λ made. made ≡ link_marks columns.now row.now) }
 {
     let mut made = List::empty(columns.allocator());

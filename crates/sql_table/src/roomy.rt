@@ -129,7 +129,10 @@ fn exchange(entries: &mut IndexMap<Name, Table>, name: &Name, table: Table) -> O
 {
     match entries.get_mut(name) {
         Some(place) => Some(mem::replace(place, table)),
-        None => None,
+        None => {
+            drop(table);
+            None
+        }
     }
 }
 

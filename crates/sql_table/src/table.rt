@@ -1,5 +1,5 @@
 // One table.
-ghost use Rattle.std.specs.Prelude.{◌≡◌, ◌<◌, None, Some, IfOk, OnOk, OnErr, length, slice_get, MatchOption, is_some, ◌+◌, ◌++◌, ◌∷◌, [], drop};
+ghost use Rattle.std.specs.Prelude.{◌≡◌, ◌<◌, None, Some, Ok, IfOk, OnOk, OnErr, length, slice_get, MatchOption, is_some, ◌+◌, ◌++◌, ◌∷◌, [], drop};
 ghost use Rattle.std.specs.Option.{option_copied, option_map};
 ghost use Rattle.dl_base.specs.Limits.{most_rows, row_numbers};
 ghost use Rattle.dl_pages.specs.Orders.{link_order};
@@ -12,15 +12,15 @@ mod replaying;
 
 use crate::columns::Columns;
 use crate::index::{
-    key_index, link_index, row_marks, with_other_keys, with_other_links, with_row_keys,
-    with_row_links, without_marks,
+    Indexes, key_index, link_index, with_entries, with_other_entries, without_entries,
 };
-use crate::key::{Key, number_probe, row_keys, text_probe};
+use crate::key::{Key, number_probe, text_probe};
 use crate::numbered::{Numbered, shared_rows};
 use dl_base::{Column, Copied, LinkNo, List, Memory, Row, Same, Value};
 use dl_pages::{Pages, Predicate, least};
 use std::alloc::Global;
 use std::marker::Model;
+use std::mem;
 
 /// Rows by number, and beside them the numbers of rows by link and by key.
 type Parts = (Pages<Numbered>, Pages<(LinkNo, u64)>, Pages<(Key, u64)>);
@@ -91,18 +91,34 @@ impl Table {
         ensures { IfOk result (λ made. made ≡ record { version = version; columns = columns; next = next; rows = rows }) }
     {
         let alloc = columns.allocator();
-        let rows = Pages::of(alloc, shared_rows(alloc, rows)?)?;
-        let links = link_index(alloc, &columns, next, &rows)?;
-        let keys = key_index(alloc, &columns, next, &rows)?;
-        let columns = Columns::shared(alloc, columns)?;
-        Ok(Table {
+        match parts_of(alloc, &columns, next, rows) {
+            Ok(parts) => match Columns::shared(alloc, columns) {
+                Ok(columns) => Ok(Table::of_parts(version, columns, next, parts)),
+                Err(fault) => {
+                    drop(parts);
+                    Err(fault)
+                }
+            },
+            Err(fault) => {
+                drop(columns);
+                Err(fault)
+            }
+        }
+    }
+
+    fn of_parts(version: u64, columns: Columns, next: u64, parts: Parts) -> Table
+        requires { IsKept columns next parts.0 parts.1 parts.2 }
+        ensures { result ≡ record { version = version; columns = columns; next = next; rows = parts.0 } }
+    {
+        let (rows, links, keys) = parts;
+        Table {
             version,
             columns,
             next,
             rows,
             links,
             keys,
-        })
+        }
     }
 
     /// The columns, in order.
@@ -231,7 +247,7 @@ impl Table {
         ensures err { OnErr result (self.new ≡ self.old) }
     {
         let number = self.next;
-        let (rows, links, keys) = pushed(
+        let parts = pushed(
             self.columns.list(),
             number,
             &self.rows,
@@ -239,10 +255,7 @@ impl Table {
             &self.keys,
             row,
         )?;
-        self.rows = rows;
-        self.links = links;
-        self.keys = keys;
-        self.next = number + 1;
+        self.renew(number + 1, parts);
         Ok(number)
     }
 
@@ -286,7 +299,7 @@ impl Table {
         ensures ok { OnOk result (self.new ≡ record self.old { rows = with_row self.old.rows number row }) }
         ensures err { OnErr result (self.new ≡ self.old) }
     {
-        let (rows, links, keys) = exchanged(
+        let parts = exchanged(
             self.columns.list(),
             self.next,
             &self.rows,
@@ -296,9 +309,7 @@ impl Table {
             number,
             row,
         )?;
-        self.rows = rows;
-        self.links = links;
-        self.keys = keys;
+        self.renew(self.next, parts);
         Ok(())
     }
 
@@ -308,7 +319,7 @@ impl Table {
         ensures ok { OnOk result (self.new ≡ record self.old { rows = without_row self.old.rows number }) }
         ensures err { OnErr result (self.new ≡ self.old) }
     {
-        let (rows, links, keys) = without(
+        let parts = without(
             self.columns.list(),
             self.next,
             &self.rows,
@@ -317,10 +328,48 @@ impl Table {
             place,
             number,
         )?;
-        self.rows = rows;
-        self.links = links;
-        self.keys = keys;
+        self.renew(self.next, parts);
         Ok(())
+    }
+
+    // Gives the table a next row number, and parts in the place of its own.
+    fn renew(&mut self, next: u64, parts: Parts)
+        requires { IsKept self.old.columns next parts.0 parts.1 parts.2 }
+        ensures { self.new ≡ record self.old { next = next; rows = parts.0 } }
+    {
+        let (rows, links, keys) = parts;
+        self.next = next;
+        drop(mem::replace(&mut self.rows, rows));
+        drop(mem::replace(&mut self.links, links));
+        drop(mem::replace(&mut self.keys, keys));
+    }
+
+    // Its parts once more.
+    fn share_parts(&self) -> Result<Parts, Memory>
+        ensures rows { IfOk result (λ made. made.0 ≡ self.now.rows) }
+        ensures kept { IfOk result (λ made. IsKept self.now.columns self.now.next made.0 made.1 made.2) }
+    {
+        let rows = self.rows.share()?;
+        match self.share_indexes() {
+            Ok((links, keys)) => Ok((rows, links, keys)),
+            Err(fault) => {
+                drop(rows);
+                Err(fault)
+            }
+        }
+    }
+
+    fn share_indexes(&self) -> Result<Indexes, Memory>
+        ensures { IfOk result (λ made. IsKept self.now.columns self.now.next self.now.rows made.0 made.1) }
+    {
+        let links = self.links.share()?;
+        match self.keys.share() {
+            Ok(keys) => Ok((links, keys)),
+            Err(fault) => {
+                drop(links);
+                Err(fault)
+            }
+        }
     }
 }
 
@@ -353,6 +402,46 @@ impl Predicate<Numbered> for Below {
     ghost high = { λ b r more. Prim.grind (arith, nat_tests) };
 }
 
+// The parts of rows whose numbers rise and are below the next one.
+fn parts_of(
+    alloc: Global,
+    columns: &List<Column>,
+    next: u64,
+    rows: List<(u64, Row)>,
+) -> Result<Parts, Memory>
+    requires { Rise 0 next rows }
+    ensures rows { IfOk result (λ made. made.0 ≡ rows) }
+    ensures kept { IfOk result (λ made. IsKept columns.now next made.0 made.1 made.2) }
+{
+    let rows = Pages::of(alloc, shared_rows(alloc, rows)?)?;
+    match indexes_of(alloc, columns, next, &rows) {
+        Ok((links, keys)) => Ok((rows, links, keys)),
+        Err(fault) => {
+            drop(rows);
+            Err(fault)
+        }
+    }
+}
+
+fn indexes_of(
+    alloc: Global,
+    columns: &List<Column>,
+    next: u64,
+    rows: &Pages<Numbered>,
+) -> Result<Indexes, Memory>
+    requires { Rise 0 next rows.now }
+    ensures { IfOk result (λ made. IsKept columns.now next rows.now made.0 made.1) }
+{
+    let links = link_index(alloc, columns, next, rows)?;
+    match key_index(alloc, columns, next, rows) {
+        Ok(keys) => Ok((links, keys)),
+        Err(fault) => {
+            drop(links);
+            Err(fault)
+        }
+    }
+}
+
 // The parts with one more row at the end.
 fn pushed(
     columns: &List<Column>,
@@ -367,10 +456,13 @@ fn pushed(
     ensures kept { IfOk result (λ made. IsKept columns.now (number + 1) made.0 made.1 made.2) }
 {
     let alloc = columns.allocator();
-    let links = with_row_links(alloc, columns, links, &row, number)?;
-    let keys = with_row_keys(alloc, columns, keys, &row, number)?;
-    let rows = appended(alloc, rows, number, row)?;
-    Ok((rows, links, keys))
+    match with_entries(alloc, columns, links, keys, &row, number) {
+        Ok(indexes) => joined(appended(alloc, rows, number, row), indexes),
+        Err(fault) => {
+            drop(row);
+            Err(fault)
+        }
+    }
 }
 
 // The parts with another row in the place of one.
@@ -391,10 +483,13 @@ fn exchanged(
 {
     let alloc = columns.allocator();
     let before = rows.item(place).row();
-    let links = with_other_links(alloc, columns, links, before, &row, number)?;
-    let keys = with_other_keys(alloc, columns, keys, before, &row, number)?;
-    let rows = swapped(alloc, rows, place, number, row)?;
-    Ok((rows, links, keys))
+    match with_other_entries(alloc, columns, links, keys, before, &row, number) {
+        Ok(indexes) => joined(swapped(alloc, rows, place, number, row), indexes),
+        Err(fault) => {
+            drop(row);
+            Err(fault)
+        }
+    }
 }
 
 // The parts without a row.
@@ -414,10 +509,24 @@ fn without(
 {
     let alloc = columns.allocator();
     let before = rows.item(place).row();
-    let links = without_marks(alloc, links, row_marks(columns, before)?, number)?;
-    let keys = without_marks(alloc, keys, row_keys(columns, before)?, number)?;
-    let rows = dropped(alloc, rows, place, number)?;
-    Ok((rows, links, keys))
+    let indexes = without_entries(alloc, columns, links, keys, before, number)?;
+    joined(dropped(alloc, rows, place, number), indexes)
+}
+
+// Rows and their indexes.
+fn joined(rows: Result<Pages<Numbered>, Memory>, indexes: Indexes) -> Result<Parts, Memory>
+    ensures { IfOk result (λ made. (rows ≡ Ok made.0) × (indexes ≡ (made.1, made.2))) }
+{
+    match rows {
+        Ok(rows) => {
+            let (links, keys) = indexes;
+            Ok((rows, links, keys))
+        }
+        Err(fault) => {
+            drop(indexes);
+            Err(fault)
+        }
+    }
 }
 
 fn appended(
@@ -429,8 +538,7 @@ fn appended(
     ensures { IfOk result (λ made. made ≡ rows.now ++ (number, row) ∷ []) }
 {
     let item = Numbered::of(alloc, number, row)?;
-    let rows = rows.inserted(alloc, rows.len(), item)?;
-    Ok(rows)
+    rows.inserted(alloc, rows.len(), item)
 }
 
 fn swapped(
@@ -444,8 +552,7 @@ fn swapped(
     ensures { IfOk result (λ made. made ≡ with_row rows.now number row) }
 {
     let item = Numbered::of(alloc, number, row)?;
-    let rows = rows.replaced(alloc, place, item)?;
-    Ok(rows)
+    rows.replaced(alloc, place, item)
 }
 
 fn dropped(
@@ -463,14 +570,14 @@ fn dropped(
 
 impl Copied for Table {
     fn copy(&self) -> Result<Table, Memory> {
-        Ok(Table {
-            version: self.version,
-            columns: self.columns.share()?,
-            next: self.next,
-            rows: self.rows.share()?,
-            links: self.links.share()?,
-            keys: self.keys.share()?,
-        })
+        let columns = self.columns.share()?;
+        match self.share_parts() {
+            Ok(parts) => Ok(Table::of_parts(self.version, columns, self.next, parts)),
+            Err(fault) => {
+                drop(columns);
+                Err(fault)
+            }
+        }
     }
 }
 

@@ -79,7 +79,10 @@ impl Tables {
     {
         match self.table_mut(name) {
             Some(place) => Some(mem::replace(place, table)),
-            None => None,
+            None => {
+                drop(table);
+                None
+            }
         }
     }
 
@@ -169,7 +172,9 @@ impl Tables {
 pub(crate) fn was_there(table: Option<Table>) -> bool
     ensures { result ≡ is_some table }
 {
-    table.is_some()
+    let was = table.is_some();
+    drop(table);
+    was
 }
 
 // Puts a copy of a table under a copy of its name.

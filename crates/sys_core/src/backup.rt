@@ -64,8 +64,14 @@ impl Engine {
         let tables = self.owners.store.committed().copy()?;
         let commit = self.owners.store.commits();
         match self.owners.backups.store(bench, commit, &tables) {
-            Ok(number) => Ok(Answer::BackedUp(number)),
-            Err(fault) => Err(fault),
+            Ok(number) => {
+                drop(tables);
+                Ok(Answer::BackedUp(number))
+            }
+            Err(fault) => {
+                drop(tables);
+                Err(fault)
+            }
         }
     }
 }

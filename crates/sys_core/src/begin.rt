@@ -58,8 +58,7 @@ impl Engine {
         ensures err { OnErr result (self.new ≡ self.old) }
         ensures vacant { OnErr result (txn.new ≡ txn.old) }
     {
-        let tables = self.owners.store.committed().copy()?;
-        txn.begin(&tables, tx)?;
+        self.begin_on_committed(txn, tx)?;
         match self.seats.put(tx, new_seat(self.alloc)) {
             Ok(()) => {
                 let _ = self.owners.store.draw();
@@ -70,6 +69,19 @@ impl Engine {
                 Err(Memory)
             }
         }
+    }
+
+    // Begins it on copies of the committed tables.
+    fn begin_on_committed(&self, txn: &mut Txn, tx: u64) -> Result<(), Memory>
+        requires vacant { txn.old ≡ vacant txn.old.session }
+        requires rows { RowsFit (tables_after [] self.now.owners.store.rows.commits) }
+        ensures ok { OnOk result (txn.new ≡ begun txn.old.session tx (tables_after [] self.now.owners.store.rows.commits)) }
+        ensures err { OnErr result (txn.new ≡ txn.old) }
+    {
+        let tables = self.owners.store.committed().copy()?;
+        let begun = txn.begin(&tables, tx);
+        drop(tables);
+        begun
     }
 }
 

@@ -34,10 +34,17 @@ impl Engine {
     {
         calls_follow_one_another::<B>();
         let forbidden = self.forbids(&cmd.what);
-        if let Some(refusal) = self.owners.manager.files().test(&cmd, forbidden)? {
-            return Ok(Answer::Refused(Refusal::File(refusal)));
+        match self.owners.manager.files().test(&cmd, forbidden) {
+            Ok(None) => self.obey(bench, cmd),
+            Ok(Some(refusal)) => {
+                drop(cmd);
+                Ok(Answer::Refused(Refusal::File(refusal)))
+            }
+            Err(Memory) => {
+                drop(cmd);
+                Err(StepFault::Memory)
+            }
         }
-        self.obey(bench, cmd)
     }
 
     // Does a command that no refusal applies to.
@@ -52,11 +59,20 @@ impl Engine {
         each_step_leads_on();
         claims_behind_other_steps();
         pieces_stay_what_they_are();
-        if let Some(answer) = self.look(&cmd.what)? {
-            return Ok(answer);
+        match self.look(&cmd.what) {
+            Ok(None) => {
+                self.owners.manager.apply(bench, cmd)?;
+                Ok(Answer::Done)
+            }
+            Ok(Some(answer)) => {
+                drop(cmd);
+                Ok(answer)
+            }
+            Err(Memory) => {
+                drop(cmd);
+                Err(StepFault::Memory)
+            }
         }
-        self.owners.manager.apply(bench, cmd)?;
-        Ok(Answer::Done)
     }
 
     // What a command that writes nothing is answered; None of one that writes.

@@ -89,6 +89,7 @@ impl Engine {
         each_step_leads_on();
         seats_count_together();
         if txn.changes_nothing() {
+            drop(vote);
             self.end(txn, tx);
             return Ok(Answer::Done);
         }

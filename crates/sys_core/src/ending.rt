@@ -50,8 +50,10 @@ impl Engine {
             return;
         };
         if self.is_doomed(&seat) {
+            drop(seat);
             return;
         }
         self.claims.drop(&seat.claim.gives, &seat.claim.takes);
+        drop(seat);
     }
 }

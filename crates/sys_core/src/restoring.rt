@@ -15,7 +15,7 @@ ghost use Rattle.meaning_areas.specs.Lists.{folds_on};
 ghost use Rattle.meaning_areas.specs.Stands.{kept_of};
 ghost use Rattle.meaning_settling.specs.Settling as settling;
 ghost use Rattle.meaning_system.specs.Writes.{prepared, whole_finish};
-ghost use Rattle.sys_core.specs.Restoring.{ArePieces, ArePiecesSpelled, CanCommit, CanWrite, IsMadeFor, MaySettle, commit_part, moved_in, moving, restore_part};
+ghost use Rattle.sys_core.specs.Restoring.{ArePieces, ArePiecesSpelled, CanCommit, CanWrite, IsMadeFor, MaySettle, commit_part, moved_by, moved_in, moving, restore_part};
 ghost use Rattle.sys_core.specs.Voting.{HaveMoreRoom};
 ghost use Rattle.sys_owners.specs.Owned.{folds_in, journals_of};
 ghost use Rattle.sys_seats.specs.Seats.{all_of, gives_of, votes_of};
@@ -62,6 +62,47 @@ pub(crate) fn make_restoration(
     ensures commits { OnOk result (all_of votes_of seats.now + 1 ≤ owners.new.store.spare) }
     ensures copies { OnOk result (all_of gives_of seats.now + length plan.gives ≤ owners.new.manager.archive.spare) }
 {
+    match pieces_behind_room(owners, seats, tx, &plan) {
+        Ok(pieces) => restoration_of(alloc, owners, tx, plan, pieces),
+        Err(Memory) => {
+            drop(plan);
+            Err(Memory)
+        }
+    }
+}
+
+// Makes room for the restore of a plan, and then the pieces of its Finish.
+fn pieces_behind_room(
+    owners: &mut Owners,
+    seats: &Seats,
+    tx: u64,
+    plan: &RestorePlan,
+) -> Result<Option<Pieces>, Memory>
+    ensures pieces { IfOk result (ArePieces owners.new.manager tx (moved_by plan.now)) }
+    ensures spelled { IfOk result (λ pieces. ArePiecesSpelled pieces) }
+    ensures same { HaveMoreRoom owners.old owners.new }
+    ensures commits { OnOk result (all_of votes_of seats.now + 1 ≤ owners.new.store.spare) }
+    ensures copies { OnOk result (all_of gives_of seats.now + length plan.now.gives ≤ owners.new.manager.archive.spare) }
+{
+    make_room(owners, seats, plan.gives.len())?;
+    let pieces = pieces_for(&mut owners.manager, tx, &plan.gives, &plan.takes, plan.fill)?;
+    are_spelled(&pieces);
+    Ok(pieces)
+}
+
+// What is made for a restore whose pieces are made. It changes nothing.
+fn restoration_of(
+    alloc: Global,
+    owners: &Owners,
+    tx: u64,
+    plan: RestorePlan,
+    pieces: Option<Pieces>,
+) -> Result<Restoration, Memory>
+    requires last { NewLast plan.handles }
+    requires pieces { ArePieces owners.now.manager tx (moved_by plan) pieces }
+    requires spelled { ArePiecesSpelled pieces }
+    ensures { IfOk result (IsMadeFor owners.now tx plan) }
+{
     let RestorePlan {
         lost,
         changes,
@@ -70,22 +111,24 @@ pub(crate) fn make_restoration(
         takes,
         fill,
     } = plan;
-    make_room(owners, seats, gives.len())?;
-    let pieces = pieces_for(&mut owners.manager, tx, &gives, &takes, fill)?;
-    are_spelled(&pieces);
-    let Some(number) = owners.store.commits().checked_add(1) else {
-        return Err(Memory);
-    };
     let branch = moves_links(&gives, &takes);
-    let made = commit_for(alloc, tx, number, branch, changes, handles)?;
-    Ok(Restoration {
-        lost,
-        made,
-        gives,
-        takes,
-        fill,
-        pieces,
-    })
+    match commit_for(alloc, owners, tx, branch, changes, handles) {
+        Ok(made) => Ok(Restoration {
+            lost,
+            made,
+            gives,
+            takes,
+            fill,
+            pieces,
+        }),
+        Err(Memory) => {
+            drop(lost);
+            drop(gives);
+            drop(takes);
+            drop(pieces);
+            Err(Memory)
+        }
+    }
 }
 
 // The pieces of the Finish of a restore, where it gives or takes a link.
@@ -115,25 +158,48 @@ fn are_spelled(pieces: &Option<Pieces>)
     }
 }
 
-// The commit of these changes, and of handles of the tables that they make, whose record as that of a number has a spelling. The error is
-// want of memory, also where they make more than 256 tables.
+// The commit of these changes, and of handles of the tables that they make, whose record as that of the next number has a spelling. The
+// error is want of memory, also where they make more than 256 tables.
 fn commit_for(
     alloc: Global,
+    owners: &Owners,
     tx: u64,
-    number: u64,
     branch: bool,
     changes: List<TableChange>,
     handles: List<Change>,
 ) -> Result<Made, Memory>
     requires { NewLast handles }
     ensures made { IfOk result (λ made. made ≡ record { tx = tx; branch = branch; changes = changes; handles = handles }) }
-    ensures fits { OnOk result (rows_record.fits (records.Commit tx number branch changes)) }
+    ensures fits { OnOk result (rows_record.fits (records.Commit tx (length owners.now.store.rows.commits + 1) branch changes)) }
 {
-    if !are_few(&handles) {
+    match number_for(owners, &handles) {
+        Ok(number) => match spelled(alloc, tx, number, branch, changes) {
+            Ok(changes) => Made::of(alloc, tx, branch, changes, handles),
+            Err(Memory) => {
+                drop(handles);
+                Err(Memory)
+            }
+        },
+        Err(Memory) => {
+            drop(changes);
+            drop(handles);
+            Err(Memory)
+        }
+    }
+}
+
+// The number of the next commit, which may make the tables that handles make.
+fn number_for(owners: &Owners, handles: &List<Change>) -> Result<u64, Memory>
+    ensures number { IfOk result (λ number. number ≡ length owners.now.store.rows.commits + 1) }
+    ensures few { OnOk result (new_in handles.now ≤ most_tables) }
+{
+    let Some(number) = owners.store.commits().checked_add(1) else {
+        return Err(Memory);
+    };
+    if !are_few(handles) {
         return Err(Memory);
     }
-    let changes = spelled(alloc, tx, number, branch, changes)?;
-    Made::of(alloc, tx, branch, changes, handles)
+    Ok(number)
 }
 
 // Whether a commit may make the tables that handles make.
@@ -172,13 +238,25 @@ fn spelled(
     ensures same { IfOk result (λ made. made ≡ changes) }
     ensures fits { OnOk result (rows_record.fits (records.Commit tx number branch changes)) }
 {
-    let mut body = List::empty(alloc);
     let record = RowsRecord::Commit(tx, number, branch, changes);
-    put_rows_record(&mut body, &record)?;
-    match record {
-        RowsRecord::Commit(_, _, _, changes) => Ok(changes),
-        _ => unreachable!(),
+    match spell(alloc, &record) {
+        Ok(()) => match record {
+            RowsRecord::Commit(_, _, _, changes) => Ok(changes),
+            _ => unreachable!(),
+        },
+        Err(Memory) => {
+            drop(record);
+            Err(Memory)
+        }
     }
+}
+
+// The record of a commit has a spelling. The error is want of memory, also where it has none.
+fn spell(alloc: Global, commit: &RowsRecord) -> Result<(), Memory>
+    ensures { OnOk result (rows_record.fits commit.now) }
+{
+    let mut body = List::empty(alloc);
+    put_rows_record(&mut body, commit)
 }
 
 // Writes a restore: its branch, where it has one, its commit, and its whole Finish. It takes its memory before it writes.

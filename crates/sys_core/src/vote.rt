@@ -108,10 +108,13 @@ impl Engine {
             false,
         ) {
             Ok(()) => {
-                let _ = self.seats.change_stage(tx, Stage::Prepared(vote));
+                drop(self.seats.change_stage(tx, Stage::Prepared(vote)));
                 Ok(())
             }
-            Err(fault) => Err(fault),
+            Err(fault) => {
+                drop(vote);
+                Err(fault)
+            }
         }
     }
 }
@@ -140,14 +143,65 @@ fn vote_of(
     ensures commits { OnOk result (all_of votes_of seats.now + 1 ≤ owners.new.store.spare) }
     ensures copies { OnOk result (all_of gives_of seats.now + length claim.now.gives ≤ owners.new.manager.archive.spare) }
 {
+    match names_and_pieces(owners, seats, tx, claim, names) {
+        Ok((names, pieces)) => Ok(Vote {
+            made,
+            names,
+            pieces,
+        }),
+        Err(Memory) => {
+            drop(made);
+            Err(Memory)
+        }
+    }
+}
+
+// A copy of the names of a vote, and its pieces. Behind it there is the room that the vote wants.
+fn names_and_pieces(
+    owners: &mut Owners,
+    seats: &Seats,
+    tx: u64,
+    claim: &SeatClaim,
+    names: &List<Name>,
+) -> Result<(List<Name>, Option<Pieces>), Memory>
+    ensures names { IfOk result (λ both. both.0 ≡ names.now) }
+    ensures pieces { (s : State) (t : Txn) → s.files ≡ owners.old.manager.files.files → s.copies ≡ owners.old.manager.archive.copies → claim.now.gives ≡ (moved_of t).gives → claim.now.takes ≡ (moved_of t).takes
+        → AreThere s.files (moved_of t) → IfOk result (λ both. HasPieces s tx t both.1) }
+    ensures same { HaveMoreRoom owners.old owners.new }
+    ensures commits { OnOk result (all_of votes_of seats.now + 1 ≤ owners.new.store.spare) }
+    ensures copies { OnOk result (all_of gives_of seats.now + length claim.now.gives ≤ owners.new.manager.archive.spare) }
+{
     let names = names.copy()?;
+    match pieces_with_room(owners, seats, tx, claim) {
+        Ok(pieces) => Ok((names, pieces)),
+        Err(Memory) => {
+            drop(names);
+            Err(Memory)
+        }
+    }
+}
+
+// The pieces of a vote, and then the room that it wants.
+fn pieces_with_room(
+    owners: &mut Owners,
+    seats: &Seats,
+    tx: u64,
+    claim: &SeatClaim,
+) -> Result<Option<Pieces>, Memory>
+    ensures pieces { (s : State) (t : Txn) → s.files ≡ owners.old.manager.files.files → s.copies ≡ owners.old.manager.archive.copies → claim.now.gives ≡ (moved_of t).gives → claim.now.takes ≡ (moved_of t).takes
+        → AreThere s.files (moved_of t) → IfOk result (HasPieces s tx t) }
+    ensures same { HaveMoreRoom owners.old owners.new }
+    ensures commits { OnOk result (all_of votes_of seats.now + 1 ≤ owners.new.store.spare) }
+    ensures copies { OnOk result (all_of gives_of seats.now + length claim.now.gives ≤ owners.new.manager.archive.spare) }
+{
     let pieces = pieces_of(&mut owners.manager, tx, claim)?;
-    make_room(owners, seats, claim.gives.len())?;
-    Ok(Vote {
-        made,
-        names,
-        pieces,
-    })
+    match make_room(owners, seats, claim.gives.len()) {
+        Ok(()) => Ok(pieces),
+        Err(Memory) => {
+            drop(pieces);
+            Err(Memory)
+        }
+    }
 }
 
 // The pieces of the Finish of a transaction, where it gives or takes a link.

@@ -81,11 +81,17 @@ pub fn begin<B: Bench>(alloc: Global, bench: &mut B, limit: u64) -> Result<Owner
             drop(owners);
             return Err(OpenFault::NotAStore(area, place));
         }
-        Err(Memory) => return Err(OpenFault::Memory),
+        Err(Memory) => {
+            drop(owners);
+            return Err(OpenFault::Memory);
+        }
     }
     match write_all(&mut owners, bench) {
         Ok(()) => Ok(owners),
-        Err(fault) => Err(fault),
+        Err(fault) => {
+            drop(owners);
+            Err(fault)
+        }
     }
 }
 

@@ -39,19 +39,37 @@ pub fn open_all<B: Bench>(alloc: Global, bench: &mut B, limit: u64) -> Result<Ow
     };
     let branches = match Branches::begin(alloc, bench, limit) {
         Ok(branches) => branches,
-        Err(fault) => return Err(open_fault(Area::Links, fault)),
+        Err(fault) => {
+            drop(store);
+            return Err(open_fault(Area::Links, fault));
+        }
     };
     let files = match Files::begin(alloc, bench, limit) {
         Ok(files) => files,
-        Err(fault) => return Err(open_fault(Area::Files, fault)),
+        Err(fault) => {
+            drop(branches);
+            drop(store);
+            return Err(open_fault(Area::Files, fault));
+        }
     };
     let archive = match Archive::begin(alloc, bench, limit) {
         Ok(archive) => archive,
-        Err(fault) => return Err(open_fault(Area::Archive, fault)),
+        Err(fault) => {
+            drop(files);
+            drop(branches);
+            drop(store);
+            return Err(open_fault(Area::Archive, fault));
+        }
     };
     let backups = match Backups::begin(alloc, bench, limit) {
         Ok(backups) => backups,
-        Err(fault) => return Err(open_fault(Area::Backups, fault)),
+        Err(fault) => {
+            drop(archive);
+            drop(files);
+            drop(branches);
+            drop(store);
+            return Err(open_fault(Area::Backups, fault));
+        }
     };
     let manager = Manager::new(alloc, branches, files, archive);
     Ok(Owners {

@@ -48,7 +48,9 @@ pub fn do_line<B: Bench>(
 {
     let counted = sessions.meet(alloc, line)?;
     let line = read_line(alloc, line)?;
-    do_read(alloc, engine, sessions, bench, number, &line, counted)
+    let done = do_read(alloc, engine, sessions, bench, number, &line, counted);
+    drop(line);
+    done
 }
 
 // Does a line as it is read, whose actor was counted, or is one too many.

@@ -72,14 +72,9 @@ impl Sessions {
     {
         let name = Name::of(alloc, name)?;
         let number = self.names.len() as u32 + 1;
-        match self.txns.push(Txn::vacant(alloc, number)) {
-            Ok(()) => {}
-            Err(_) => return Err(Memory),
-        }
-        match self.names.push(name) {
-            Ok(()) => Ok(()),
-            Err(_) => Err(Memory),
-        }
+        self.txns.push(Txn::vacant(alloc, number))?;
+        self.names.push(name)?;
+        Ok(())
     }
 
     /// The number of a session that acts; 0 of any other name.

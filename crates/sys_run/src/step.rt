@@ -37,7 +37,11 @@ pub(crate) fn do_step<B: Bench>(
     steps_leave_other_sessions();
     match step {
         Step::Begin(session) => begin(engine, txns, session),
-        Step::Statement(session, stmt) => do_statement(engine, txns, bench, session, &stmt),
+        Step::Statement(session, stmt) => {
+            let answered = do_statement(engine, txns, bench, session, &stmt);
+            drop(stmt);
+            answered
+        }
         Step::Prepare(session) => prepare(engine, txns, bench, session),
         Step::Decide(session) => decide(engine, txns, bench, session),
         Step::Finish(session) => finish(engine, txns, bench, session),

@@ -74,7 +74,7 @@ pub(crate) fn take_turn<B: Bench>(
             Ok(true)
         }
         Next::Answered(answer) => {
-            tell(alloc, sessions, bench, number, line, &answer)?;
+            tell_owned(alloc, sessions, bench, number, line, answer)?;
             Ok(true)
         }
         Next::Nothing => Ok(true),
@@ -84,10 +84,8 @@ pub(crate) fn take_turn<B: Bench>(
 fn put(answers: &mut List<Answer>, answer: Answer) -> Result<(), Memory>
     ensures { OnOk result (answers.new ≡ answers.old ++ answer ∷ []) }
 {
-    match answers.push(answer) {
-        Ok(()) => Ok(()),
-        Err(_) => Err(Memory),
-    }
+    answers.push(answer)?;
+    Ok(())
 }
 
 // What a line comes to behind these answers, where these links wait for copies.
@@ -171,8 +169,28 @@ pub(crate) fn refuse<B: Bench>(
     ensures not_full { (full : Full) → result ≢ Err (StepFault.Full full) }
     ensures device { result ≡ Err StepFault.Device → FaultCounted (B.outside bench.old) (B.outside bench.new) }
 {
-    let answer = Answer::Refused(why);
-    tell(alloc, sessions, bench, number, line, &answer)
+    tell_owned(alloc, sessions, bench, number, line, Answer::Refused(why))
+}
+
+// Tells an answer that nobody needs behind its line.
+fn tell_owned<B: Bench>(
+    alloc: Global,
+    sessions: &mut Sessions,
+    bench: &mut B,
+    number: u64,
+    line: &Line,
+    answer: Answer,
+) -> Result<(), StepFault>
+    ensures told { OnOk result ((first : ℕ) (lists : Lists) (before : Optional (Items ℕ)) (r : Run) (w : working.Engine) (l : Read) (more : Items Read) → Stands first lists before r w sessions.old (B.outside bench.old) → l.line ≡ line.now → r.number ≡ number
+        → Stands first lists before (told_by r l more (Some answer)) w sessions.new (B.outside bench.new)) }
+    ensures history { (first : ℕ) (lists : Lists) (before : Optional (Items ℕ)) (r : Run) (w : working.Engine) (l : Read) (more : Items Read) → Stands first lists before r w sessions.old (B.outside bench.old) → l.line ≡ line.now → r.number ≡ number
+        → AtEveryMoment (IsBetween lists r (told_by r l more (Some answer)) before) (B.outside bench.old) (B.outside bench.new) }
+    ensures not_full { (full : Full) → result ≢ Err (StepFault.Full full) }
+    ensures device { result ≡ Err StepFault.Device → FaultCounted (B.outside bench.old) (B.outside bench.new) }
+{
+    let told = tell(alloc, sessions, bench, number, line, &answer);
+    drop(answer);
+    told
 }
 
 // Tells the answer of a line, and keeps what its session's name stands for then.

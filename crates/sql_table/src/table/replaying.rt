@@ -8,9 +8,9 @@ ghost use Rattle.meaning_tables.specs.Tables.{Rise, row_of};
 ghost use Rattle.sql_table.specs.Marks.{IsKept};
 ghost use Rattle.sql_table.specs.Placing.{with_placed};
 
-use super::{Below, Parts, Table};
+use super::{Below, Parts, Table, joined};
 use crate::Tables;
-use crate::index::{with_row_keys, with_row_links};
+use crate::index::with_entries;
 use crate::key::Key;
 use crate::link_rows::has_number;
 use crate::numbered::Numbered;
@@ -41,7 +41,7 @@ impl Table {
         ensures ok { OnOk result (self.new ≡ record self.old { rows = with_placed self.old.rows number row }) }
         ensures err { OnErr result (self.new ≡ self.old) }
     {
-        let (rows, links, keys) = squeezed(
+        let parts = squeezed(
             self.columns.list(),
             self.next,
             &self.rows,
@@ -50,9 +50,7 @@ impl Table {
             number,
             row,
         )?;
-        self.rows = rows;
-        self.links = links;
-        self.keys = keys;
+        self.renew(self.next, parts);
         Ok(())
     }
 
@@ -98,10 +96,13 @@ fn squeezed(
     ensures kept { IfOk result (λ made. IsKept columns.now next made.0 made.1 made.2) }
 {
     let alloc = columns.allocator();
-    let links = with_row_links(alloc, columns, links, &row, number)?;
-    let keys = with_row_keys(alloc, columns, keys, &row, number)?;
-    let rows = placed(alloc, next, rows, number, row)?;
-    Ok((rows, links, keys))
+    match with_entries(alloc, columns, links, keys, &row, number) {
+        Ok(indexes) => joined(placed(alloc, next, rows, number, row), indexes),
+        Err(fault) => {
+            drop(row);
+            Err(fault)
+        }
+    }
 }
 
 // Rows below a number, with one more, of a number that none has.
@@ -119,6 +120,5 @@ fn placed(
     let _ = next;
     let place = rows.partition_point(&Below { number });
     let item = Numbered::of(alloc, number, row)?;
-    let rows = rows.inserted(alloc, place, item)?;
-    Ok(rows)
+    rows.inserted(alloc, place, item)
 }

@@ -84,8 +84,8 @@ returns-in-Ok-run_lines-clause-unopened g c x told nothing =
     let stood = found-stands begun.0 begun.1 (g.B.Bench.outside c.args.bench) (begun.2.found x told) x told in
     absurd (nothing stood.0 stood.1)
 
-pub returns-in-Ok-clause-history : goal.returns-in-Ok-clause-history
-returns-in-Ok-clause-history g c run begins =
+pub returns-in-Err-run_lines-clause-history : goal.returns-in-Err-run_lines-clause-history
+returns-in-Err-run_lines-clause-history g c run begins =
     let O = g.B.Bench.outside in
     let o = O c.args.bench in
     let m = O c.open.new.bench in
@@ -96,8 +96,8 @@ returns-in-Ok-clause-history g c run begins =
     (record { begun = c.in-Ok.ensures.begun.2; is = c.in-Ok.ensures.begun.3 }) c.new-sessions.ensures.txns c.new-sessions.ensures.names c.new-sessions.ensures.actors c.new-sessions.ensures.grids run begins in
     inside-then run w o m ready.opened begins.areas_have n (c.open.ensures.fronts run.lists run.folds begins.areas_have) (c.run_lines.ensures.history (first_of (stored_of run.folds)) (puts (as_writes (opening run.folds)) run.lists) o.told (run_of run) ready.stands ready.at)
 
-pub returns-in-Ok-clause-full : goal.returns-in-Ok-clause-full
-returns-in-Ok-clause-full g c full is run begins =
+pub returns-in-Err-run_lines-clause-full : goal.returns-in-Err-run_lines-clause-full
+returns-in-Err-run_lines-clause-full g c full is run begins =
     let O = g.B.Bench.outside in
     let o = O c.args.bench in
     let m = O c.open.new.bench in
@@ -108,43 +108,43 @@ returns-in-Ok-clause-full g c full is run begins =
     (record { begun = c.in-Ok.ensures.begun.2; is = c.in-Ok.ensures.begun.3 }) c.new-sessions.ensures.txns c.new-sessions.ensures.names c.new-sessions.ensures.actors c.new-sessions.ensures.grids run begins in
     full-then run w o m ready.opened begins.areas_have full n (c.in-Err-run_lines.ensures.full full (ap (λ (e : StepFault). Err e) (step-full c.in-Err-run_lines.fault full (sym c.step_end.ensures ∙ is))) (first_of (stored_of run.folds)) (puts (as_writes (opening run.folds)) run.lists) o.told (run_of run) ready.stands ready.at)
 
-pub returns-in-Ok-clause-end : goal.returns-in-Ok-clause-end
-returns-in-Ok-clause-end g c = subst IsRunEnd (sym c.step_end.ensures) (step-ends c.in-Err-run_lines.fault)
+pub returns-in-Err-run_lines-clause-end : goal.returns-in-Err-run_lines-clause-end
+returns-in-Err-run_lines-clause-end g c = subst IsRunEnd (sym c.step_end.ensures) (step-ends c.in-Err-run_lines.fault)
 
-pub returns-in-Ok-clause-whole : goal.returns-in-Ok-clause-whole
-returns-in-Ok-clause-whole g c is = absurd (step-never-done c.in-Err-run_lines.fault (sym c.step_end.ensures ∙ is))
+pub returns-in-Err-run_lines-clause-whole : goal.returns-in-Err-run_lines-clause-whole
+returns-in-Err-run_lines-clause-whole g c is = absurd (step-never-done c.in-Err-run_lines.fault (sym c.step_end.ensures ∙ is))
 
-pub returns-in-Ok-clause-not_a_store : goal.returns-in-Ok-clause-not_a_store
-returns-in-Ok-clause-not_a_store g c area place is = absurd (step-no-store c.in-Err-run_lines.fault area place (sym c.step_end.ensures ∙ is))
+pub returns-in-Err-run_lines-clause-not_a_store : goal.returns-in-Err-run_lines-clause-not_a_store
+returns-in-Err-run_lines-clause-not_a_store g c area place is = absurd (step-no-store c.in-Err-run_lines.fault area place (sym c.step_end.ensures ∙ is))
 
-pub returns-in-Ok-clause-device : goal.returns-in-Ok-clause-device
-returns-in-Ok-clause-device g c is =
+pub returns-in-Err-run_lines-clause-device : goal.returns-in-Err-run_lines-clause-device
+returns-in-Err-run_lines-clause-device g c is =
     let O = g.B.Bench.outside in
     rose-later (O c.args.bench) (O c.open.new.bench) (O c.run_lines.new.bench) c.in-Ok.ensures.begun.2.faults
     (c.in-Err-run_lines.ensures.device (ap (λ (e : StepFault). Err e) (step-device c.in-Err-run_lines.fault (sym c.step_end.ensures ∙ is))))
 
-pub returns-in-Ok-clause-stood : goal.returns-in-Ok-clause-stood
-returns-in-Ok-clause-stood g c was x told =
+pub returns-in-Err-run_lines-clause-stood : goal.returns-in-Err-run_lines-clause-stood
+returns-in-Err-run_lines-clause-stood g c was x told =
     let begun = c.in-Ok.ensures.begun in
     found-stands begun.0 begun.1 (g.B.Bench.outside c.args.bench) (begun.2.found x told) x told
 
-pub returns-in-Ok-clause-unopened : goal.returns-in-Ok-clause-unopened
-returns-in-Ok-clause-unopened g c x told nothing =
+pub returns-in-Err-run_lines-clause-unopened : goal.returns-in-Err-run_lines-clause-unopened
+returns-in-Err-run_lines-clause-unopened g c x told nothing =
     let begun = c.in-Ok.ensures.begun in
     let stood = found-stands begun.0 begun.1 (g.B.Bench.outside c.args.bench) (begun.2.found x told) x told in
     absurd (nothing stood.0 stood.1)
 
 -- where the areas do not open
 
-pub returns-clause-history : goal.returns-clause-history
-returns-clause-history g c run begins =
+pub returns-in-Err-clause-history : goal.returns-in-Err-clause-history
+returns-in-Err-clause-history g c run begins =
     inside-opening run (g.B.Bench.outside c.args.bench) (g.B.Bench.outside c.open.new.bench) (c.open.ensures.fronts run.lists run.folds begins.areas_have)
 
-pub returns-clause-device : goal.returns-clause-device
-returns-clause-device g c is = c.in-Err.ensures.device (ap (λ (e : OpenFault). Err e) (opening-device c.in-Err.fault (sym c.opening_end.ensures ∙ is)))
+pub returns-in-Err-clause-device : goal.returns-in-Err-clause-device
+returns-in-Err-clause-device g c is = c.in-Err.ensures.device (ap (λ (e : OpenFault). Err e) (opening-device c.in-Err.fault (sym c.opening_end.ensures ∙ is)))
 
-pub returns-clause-not_a_store : goal.returns-clause-not_a_store
-returns-clause-not_a_store g c area place is =
+pub returns-in-Err-clause-not_a_store : goal.returns-in-Err-clause-not_a_store
+returns-in-Err-clause-not_a_store g c area place is =
     let which = ap (λ (e : OpenFault). Err e) (opening-no-store c.in-Err.fault area place (sym c.opening_end.ensures ∙ is)) in
     record {
       nothing = c.in-Err.ensures.no_store area place which;
@@ -152,19 +152,19 @@ returns-clause-not_a_store g c area place is =
       told = c.open.ensures.told;
     }
 
-pub returns-clause-unopened : goal.returns-clause-unopened
-returns-clause-unopened g c x told nothing = (c.open.ensures.unopened x told nothing, c.open.ensures.told)
+pub returns-in-Err-clause-unopened : goal.returns-in-Err-clause-unopened
+returns-in-Err-clause-unopened g c x told nothing = (c.open.ensures.unopened x told nothing, c.open.ensures.told)
 
-pub returns-clause-full : goal.returns-clause-full
-returns-clause-full g c full is run begins =
+pub returns-in-Err-clause-full : goal.returns-in-Err-clause-full
+returns-in-Err-clause-full g c full is run begins =
     let which = ap (λ (e : OpenFault). Err e) (opening-full c.in-Err.fault full (sym c.opening_end.ensures ∙ is)) in
     inl (record {
       full_is = subst (λ (s : Settings). full_in (journals_with s.limit run.lists) (as_writes (opening run.folds)) ≡ Some full) (sym begins.given_is) (c.in-Err.ensures.full full which run.lists run.folds begins.areas_have);
       told = c.open.ensures.told;
     })
 
-pub returns-clause-stood : goal.returns-clause-stood
-returns-clause-stood g c was x told =
+pub returns-in-Err-clause-stood : goal.returns-in-Err-clause-stood
+returns-in-Err-clause-stood g c was x told =
     let full = opening-opened c.in-Err.fault (subst WasOpened c.opening_end.ensures was) in
     let found = c.in-Err.ensures.found full.0 (ap (λ (e : OpenFault). Err e) full.1) x told in
     found-stands found.0 found.1 (g.B.Bench.outside c.args.bench) found.2 x told

@@ -3,6 +3,6 @@ use Rattle.std.proofs.lemmas.Grind.{common_steps}
 use Rattle.sql_change.specs.Parts.{replaced}
 use Rattle.sql_change.proofs.updating.replaced.Goals as goal
 
-pub returns-in_err-check_keys-clause-made : goal.returns-in_err-check_keys-clause-made
+pub returns-in-Err-clause-made : goal.returns-in-Err-clause-made
 unfolding replaced
-returns-in_err-check_keys-clause-made c = grind (arith, common_steps)
+returns-in-Err-clause-made c = grind (arith, common_steps)

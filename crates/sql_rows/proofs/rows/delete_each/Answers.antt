@@ -7,4 +7,4 @@ use Rattle.sql_rows.proofs.rows.delete_each.Goals as goal
 pub returns-clause-rows : goal.returns-clause-rows
 returns-clause-rows c =
     let a = c.args in
-    subst (λ (f : Filter). Computes (λ d. d.table.rows) c.delete_met.result (remaining f.columns a.context.now (option_list f.condition) a.table.now.rows)) c.in_ok-bound.ensures c.delete_met.ensures.rows
+    subst (λ (f : Filter). Computes (λ d. d.table.rows) c.delete_met-made.result (remaining f.columns a.context.now (option_list f.condition) a.table.now.rows)) c.in_ok-bound.ensures c.delete_met-made.ensures.rows

@@ -76,8 +76,8 @@ returns-in-Finish-clause-steps g c = grind (arith, common_steps)
 pub returns-in-Backup-clause-steps : goal.returns-in-Backup-clause-steps
 returns-in-Backup-clause-steps g c = grind (arith, common_steps)
 
-pub do_statement-requires-clause-of : goal.do_statement-requires-clause-of
-do_statement-requires-clause-of g c = grind (arith, common_steps)
+pub do_statement-answered-requires-clause-of : goal.do_statement-answered-requires-clause-of
+do_statement-answered-requires-clause-of g c = grind (arith, common_steps)
 
 pub returns-in-Archive-clause-steps : goal.returns-in-Archive-clause-steps
 returns-in-Archive-clause-steps g c = grind (arith, common_steps)

@@ -153,26 +153,26 @@ returns-in_ok-tell-in-Given-clause-history g c first lists before r l more stand
     tell-history a.number a.line.now a.answers.now first lists before r l more a.engine.now a.sessions.now (O a.bench.now) stands is a.waiting.now sees (given c.in-Given.at) (meant c.in_ok-step.field-0) (c.in_ok-step.ensures first r stands.is stands.sessions) (ap meant c.in-Given.is) refl (Some c.in-Some.answer.now) (given-tells a.answers.now r l more c.in-Given.at (Some c.in-Some.answer.now) is.answers (sym c.in-Some.ensures))
     (O c.tell.new.bench) (c.tell.ensures.history first lists before r a.engine.now l more stands is.line_is is.number_is)
 
-pub returns-in_err-tell-in-Answered-clause-history : goal.returns-in_err-tell-in-Answered-clause-history
-returns-in_err-tell-in-Answered-clause-history g c first lists before r l more stands is sees =
+pub returns-in_err-tell_owned-in-Answered-clause-history : goal.returns-in_err-tell_owned-in-Answered-clause-history
+returns-in_err-tell_owned-in-Answered-clause-history g c first lists before r l more stands is sees =
     let O = g.B.Bench.outside in
     let a = c.args in
     tell-history a.number a.line.now a.answers.now first lists before r l more a.engine.now a.sessions.now (O a.bench.now) stands is a.waiting.now sees (answered c.in-Answered.answer) (meant c.in_ok-step.field-0) (c.in_ok-step.ensures first r stands.is stands.sessions) (ap meant c.in-Answered.is) refl (Some c.in-Answered.answer) refl
-    (O c.tell-in-Answered.new.bench) (c.tell-in-Answered.ensures.history first lists before r a.engine.now l more stands is.line_is is.number_is)
+    (O c.tell_owned.new.bench) (c.tell_owned.ensures.history first lists before r a.engine.now l more stands is.line_is is.number_is)
 
-pub returns-in_ok-tell-in-Answered-clause-turned : goal.returns-in_ok-tell-in-Answered-clause-turned
-returns-in_ok-tell-in-Answered-clause-turned g c first lists before r l more stands is sees =
+pub returns-in_ok-tell_owned-in-Answered-clause-turned : goal.returns-in_ok-tell_owned-in-Answered-clause-turned
+returns-in_ok-tell_owned-in-Answered-clause-turned g c first lists before r l more stands is sees =
     let O = g.B.Bench.outside in
     let a = c.args in
     tell-turned a.number a.line.now a.answers.now first lists before r l more a.engine.now a.sessions.now (O a.bench.now) stands is a.waiting.now sees (answered c.in-Answered.answer) (meant c.in_ok-step.field-0) (c.in_ok-step.ensures first r stands.is stands.sessions) (ap meant c.in-Answered.is) refl (Some c.in-Answered.answer) refl
-    c.tell-in-Answered.new.sessions (O c.tell-in-Answered.new.bench) a.answers.now (c.in_ok-tell-in-Answered.ensures.told first lists before r a.engine.now l more stands is.line_is is.number_is)
+    c.tell_owned.new.sessions (O c.tell_owned.new.bench) a.answers.now (c.in_ok-tell_owned-in-Answered.ensures.told first lists before r a.engine.now l more stands is.line_is is.number_is)
 
-pub returns-in_ok-tell-in-Answered-clause-history : goal.returns-in_ok-tell-in-Answered-clause-history
-returns-in_ok-tell-in-Answered-clause-history g c first lists before r l more stands is sees =
+pub returns-in_ok-tell_owned-in-Answered-clause-history : goal.returns-in_ok-tell_owned-in-Answered-clause-history
+returns-in_ok-tell_owned-in-Answered-clause-history g c first lists before r l more stands is sees =
     let O = g.B.Bench.outside in
     let a = c.args in
     tell-history a.number a.line.now a.answers.now first lists before r l more a.engine.now a.sessions.now (O a.bench.now) stands is a.waiting.now sees (answered c.in-Answered.answer) (meant c.in_ok-step.field-0) (c.in_ok-step.ensures first r stands.is stands.sessions) (ap meant c.in-Answered.is) refl (Some c.in-Answered.answer) refl
-    (O c.tell-in-Answered.new.bench) (c.tell-in-Answered.ensures.history first lists before r a.engine.now l more stands is.line_is is.number_is)
+    (O c.tell_owned.new.bench) (c.tell_owned.ensures.history first lists before r a.engine.now l more stands is.line_is is.number_is)
 
 pub returns-in_default-clause-turned : goal.returns-in_default-clause-turned
 returns-in_default-clause-turned g c first lists before r l more stands is sees =
@@ -194,14 +194,14 @@ returns-in_default-clause-device g c = grind (arith, common_steps)
 pub returns-in_err-answer-in-Do-clause-device : goal.returns-in_err-answer-in-Do-clause-device
 returns-in_err-answer-in-Do-clause-device g c = grind (arith, common_steps)
 
-pub returns-in_ok-tell-in-Answered-clause-device : goal.returns-in_ok-tell-in-Answered-clause-device
-returns-in_ok-tell-in-Answered-clause-device g c = grind (arith, common_steps)
+pub returns-in_ok-tell_owned-in-Answered-clause-device : goal.returns-in_ok-tell_owned-in-Answered-clause-device
+returns-in_ok-tell_owned-in-Answered-clause-device g c = grind (arith, common_steps)
 
 pub returns-in_ok-tell-in-Given-clause-device : goal.returns-in_ok-tell-in-Given-clause-device
 returns-in_ok-tell-in-Given-clause-device g c = grind (arith, common_steps)
 
-pub returns-in_err-tell-in-Answered-clause-device : goal.returns-in_err-tell-in-Answered-clause-device
-returns-in_err-tell-in-Answered-clause-device g c = grind (arith, common_steps)
+pub returns-in_err-tell_owned-in-Answered-clause-device : goal.returns-in_err-tell_owned-in-Answered-clause-device
+returns-in_err-tell_owned-in-Answered-clause-device g c = grind (arith, common_steps)
 
 pub returns-in_err-answer-in-Statement-clause-device : goal.returns-in_err-answer-in-Statement-clause-device
 returns-in_err-answer-in-Statement-clause-device g c = grind (arith, common_steps)
@@ -230,8 +230,8 @@ returns-in_ok-put-in-Statement-clause-full g c = grind (arith, common_steps)
 pub returns-in_ok-tell-in-Given-clause-full : goal.returns-in_ok-tell-in-Given-clause-full
 returns-in_ok-tell-in-Given-clause-full g c = grind (arith, common_steps)
 
-pub returns-in_ok-tell-in-Answered-clause-full : goal.returns-in_ok-tell-in-Answered-clause-full
-returns-in_ok-tell-in-Answered-clause-full g c = grind (arith, common_steps)
+pub returns-in_ok-tell_owned-in-Answered-clause-full : goal.returns-in_ok-tell_owned-in-Answered-clause-full
+returns-in_ok-tell_owned-in-Answered-clause-full g c = grind (arith, common_steps)
 
 pub returns-in-Nothing-clause-history : goal.returns-in-Nothing-clause-history
 returns-in-Nothing-clause-history g c = grind (arith, common_steps)

@@ -10,6 +10,3 @@ returns-clause-ok c = grind (arith, common_steps)
 
 pub exchanged-requires-clause-kept : goal.exchanged-requires-clause-kept
 exchanged-requires-clause-kept c = grind (arith, common_steps)
-
-pub invariant_of-self : goal.invariant_of-self
-invariant_of-self c = grind (arith, common_steps)

@@ -2,9 +2,6 @@ use Rattle.std.proofs.Common.{arith}
 use Rattle.std.proofs.lemmas.Grind.{common_steps}
 use Rattle.sql_table.proofs.table.Table.take_out.Goals as goal
 
-pub invariant_of-self : goal.invariant_of-self
-invariant_of-self c = grind (arith, common_steps)
-
 pub without-requires-clause-at : goal.without-requires-clause-at
 without-requires-clause-at c = grind (arith, common_steps)
 

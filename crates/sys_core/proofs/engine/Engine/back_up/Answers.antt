@@ -40,8 +40,8 @@ returns-in-Ok g c =
     never : {T : Type 0} (x : T) → ◌≡◌ {A = Result T StepFault} (Ok x) (Err faults.Memory) → ⊥
     never x n = cc
 
-pub returns : goal.returns
-returns g c =
+pub returns-in-Err : goal.returns-in-Err
+returns-in-Err g c =
     let O = g.B.Bench.outside in
     let w = c.args.self.now in
     let laws : Laws = record { leads = c.each_step_leads_on.ensures.kept; claims = c.claims_behind_other_steps.ensures.backup; pieces = c.pieces_stay_what_they_are.ensures } in

@@ -1,9 +1,0 @@
-use Rattle.std.proofs.Common.{◌≡◌, ◌++◌, sym, ◌∙◌, ap, arith}
-use Rattle.dl_pages.specs.Listing.{flatten}
-use Rattle.dl_pages.proofs.Parts.{inserted_page}
-use Rattle.dl_pages.proofs.pages.Part.+inserted.Goals as goal
-
-pub returns-in_ok-parts-in-Some-find : goal.returns-in_ok-parts-in-Some-find
-returns-in_ok-parts-in-Some-find g t c =
-    let whole : c.args.self.now.0 ≡ flatten c.parts.result.now = sym c.in-Some.ensures.0 ∙ sym c.parts.ensures.items in
-    inserted_page c.parts.result.now c.in-Some-find.spot.before.now c.in-Some-find.spot.behind.now c.in-Some-find.spot.part.now c.args.index c.saturating_sub-last.result c.in-Some-find.spot.index c.args.item (c.in_ok-made-in-Some-find.made.first.0 ++ c.in_ok-made-in-Some-find.made.second.0) c.args.self.now.0 _ whole c.in-Some-find.ensures.split c.in-Some-find.ensures.at c.in-Some-find.ensures.within (grind (arith)) (grind (arith)) c.in_ok-parts-in-Some-find.ensures c.in_ok-made-in-Some-find.ensures
