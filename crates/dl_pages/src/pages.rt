@@ -6,7 +6,7 @@ ghost use Rattle.std.specs.Option.{option_copied};
 ghost use Rattle.dl_pages.specs.Points.{IsPartitioned, IsPartitionPoint};
 
 use crate::leaves::{MOST_ITEMS, roomy};
-use crate::tree::{Part, gathered, page_of_made};
+use crate::tree::{Part, gathered, top_of};
 use crate::{Predicate, Ranked};
 use dl_base::{Copied, List, Memory, Same};
 use std::alloc::Global;
@@ -134,11 +134,8 @@ impl<T: Copied + Ranked> Pages<T> {
         ensures { IfOk result (λ made. made ≡ insert self.now index item) }
     {
         let made = self.top.inserted(alloc, index, item)?;
-        if made.second.len() == 0 {
-            return Ok(Pages { top: made.first });
-        }
         Ok(Pages {
-            top: page_of_made(alloc, made)?,
+            top: top_of(alloc, made)?,
         })
     }
 

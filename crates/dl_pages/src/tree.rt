@@ -1,5 +1,5 @@
 // The tree under a list: parts, each a leaf or a page of parts. No part is changed once it stands in a page.
-ghost use Rattle.std.specs.Prelude.{◌≡◌, ℕ, true, false, [], ◌∷◌, ◌++◌, ◌+◌, ◌<◌, ◌≤◌, length, drop, slice_get, slice_set, remove, IfOk, OnOk, IfSome, IfNone, MatchOption};
+ghost use Rattle.std.specs.Prelude.{◌≡◌, ℕ, Ok, true, false, [], ◌∷◌, ◌++◌, ◌+◌, ◌<◌, ◌≤◌, length, drop, slice_get, slice_set, remove, IfOk, OnOk, IfSome, IfNone, MatchOption};
 ghost use Rattle.std.specs.List.{insert};
 ghost use Rattle.std.specs.Option.{option_copied};
 ghost use Rattle.dl_pages.specs.Listing.{flatten, AreFilled, AreBelow, Begins};
@@ -105,6 +105,35 @@ impl<T: Ranked> Made<T> {
         ensures { result ≤ 2 }
     {
         if self.second.len == 0 { 1 } else { 2 }
+    }
+}
+
+// A part that has become one, where it was made.
+fn alone<T: Drop + Ranked>(part: Result<Part<T>, Memory>) -> Result<Made<T>, Memory>
+    ensures { IfOk result (λ made. (part ≡ Ok made.first) × (made.second.0 ≡ [])) }
+{
+    Ok(Made::one(part?))
+}
+
+// A part that has become two, where both were made.
+fn both<T: Drop + Ranked>(
+    first: Result<Part<T>, Memory>,
+    second: Result<Part<T>, Memory>,
+) -> Result<Made<T>, Memory>
+    ensures { IfOk result (λ made. (first ≡ Ok made.first) × (second ≡ Ok made.second)) }
+{
+    match first {
+        Ok(first) => match second {
+            Ok(second) => Ok(Made { first, second }),
+            Err(Memory) => {
+                drop(first);
+                Err(Memory)
+            }
+        },
+        Err(Memory) => {
+            drop(second);
+            Err(Memory)
+        }
     }
 }
 
@@ -379,10 +408,7 @@ impl<T: Copied + Ranked> Part<T> {
                     .inserted(alloc, spot.index + (index - last), item)?;
                 parted(alloc, spot.before, made, spot.behind)
             }
-            None => Ok(Made {
-                first: self.share()?,
-                second: Part::of_item(alloc, item)?,
-            }),
+            None => both(self.share(), Part::of_item(alloc, item)),
         }
     }
 
@@ -396,19 +422,13 @@ impl<T: Copied + Ranked> Part<T> {
         let row = self.row();
         if row.len() < MOST_ITEMS {
             let row = with_item(alloc, row, index, item)?;
-            return Ok(Made::one(Part::of_row(alloc, row)?));
+            return alone(Part::of_row(alloc, row));
         }
         if index == row.len() {
-            return Ok(Made {
-                first: self.share()?,
-                second: Part::of_item(alloc, item)?,
-            });
+            return both(self.share(), Part::of_item(alloc, item));
         }
         let (front, back) = halved(alloc, row, index, item)?;
-        Ok(Made {
-            first: Part::of_row(alloc, front)?,
-            second: Part::of_row(alloc, back)?,
-        })
+        both(Part::of_row(alloc, front), Part::of_row(alloc, back))
     }
 
     #[tactic(auto, using(crate::proofs::Parts::below_split))]
@@ -553,8 +573,20 @@ fn page_of_parts<T: Drop + Ranked>(alloc: Global, parts: &[Part<T>]) -> Result<P
     Part::of_page(alloc, page)
 }
 
+// What a top has become, under one top.
+pub fn top_of<T: Drop + Ranked>(alloc: Global, made: Made<T>) -> Result<Part<T>, Memory>
+    ensures { IfOk result (λ top. top.0 ≡ made.first.0 ++ made.second.0) }
+{
+    if made.second.len == 0 {
+        let Made { first, second } = made;
+        drop(second);
+        return Ok(first);
+    }
+    page_of_made(alloc, made)
+}
+
 // A page of what a part has become.
-pub fn page_of_made<T: Drop + Ranked>(alloc: Global, made: Made<T>) -> Result<Part<T>, Memory>
+fn page_of_made<T: Drop + Ranked>(alloc: Global, made: Made<T>) -> Result<Part<T>, Memory>
     ensures { IfOk result (λ page. page.0 ≡ made.first.0 ++ made.second.0) }
 {
     let mut page = Page::empty();
@@ -575,26 +607,27 @@ fn parted<T: Drop + Ranked>(
     ensures { IfOk result (λ parts. parts.first.0 ++ parts.second.0 ≡ flatten before.now ++ ((made.first.0 ++ made.second.0) ++ flatten behind.now)) }
 {
     if before.len() + made.places() + behind.len() <= MOST_PARTS {
-        return Ok(Made::one(page_of(alloc, before, made, behind)?));
+        return alone(page_of(alloc, before, made, behind));
     }
     if behind.is_empty() {
-        return Ok(Made {
-            first: page_of(alloc, before, Made::one(made.first), behind)?,
-            second: page_of_made(alloc, Made::one(made.second))?,
-        });
+        let Made { first, second } = made;
+        return both(
+            page_of(alloc, before, Made::one(first), behind),
+            page_of_made(alloc, Made::one(second)),
+        );
     }
     if before.len() >= HALF {
         let (front, back) = before.split_at(HALF);
-        return Ok(Made {
-            first: page_of_parts(alloc, front)?,
-            second: page_of(alloc, back, made, behind)?,
-        });
+        return both(
+            page_of_parts(alloc, front),
+            page_of(alloc, back, made, behind),
+        );
     }
     let (front, back) = behind.split_at(HALF - 1 - before.len());
-    Ok(Made {
-        first: page_of(alloc, before, made, front)?,
-        second: page_of_parts(alloc, back)?,
-    })
+    both(
+        page_of(alloc, before, made, front),
+        page_of_parts(alloc, back),
+    )
 }
 
 // Parts under one top: pages of four, as often as it takes. Thirty-two rounds are enough for a length of 64 bits.

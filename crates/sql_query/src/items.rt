@@ -1,5 +1,5 @@
 // What a query shows: the columns in order, or its items.
-ghost use Rattle.std.specs.Prelude.{◌≡◌, ◌++◌, IfOk, Ok, bytes_eq, length, map};
+ghost use Rattle.std.specs.Prelude.{◌≡◌, ◌++◌, IfOk, OnOk, Ok, bytes_eq, length, map};
 ghost use Rattle.std.specs.List.{list_any};
 ghost use Rattle.meaning_sql.specs.Columns.{only_one};
 ghost use Rattle.meaning_sql.specs.Faults.{Computes, typed, try_map, option_list};
@@ -121,10 +121,27 @@ pub(crate) fn bound_items<'a>(
     ensures { IfOk result (λ made. made ≡ map (λ i. bound_in columns.now i.expr) items.now) }
 {
     let mut made = List::empty(alloc);
+    match put_bound(alloc, &mut made, items, columns) {
+        Ok(()) => Ok(made),
+        Err(Memory) => {
+            drop(made);
+            Err(Memory)
+        }
+    }
+}
+
+fn put_bound<'a>(
+    alloc: Global,
+    made: &mut List<Bound<'a>>,
+    items: &'a [Item],
+    columns: &'a Columns,
+) -> Result<(), Memory>
+    ensures { OnOk result (made.new ≡ made.old ++ map (λ i. bound_in columns.now i.expr) items.now) }
+{
     for item in items {
         made.push(Bound::new(alloc, &item.expr, columns)?)?;
     }
-    Ok(made)
+    Ok(())
 }
 
 /// What is shown of a row by items without aggregates.

@@ -1,11 +1,11 @@
 // SELECT. Where an expression ends, `drop` is written: what would be let go without a word is proved variant by variant
 // at each such place.
-ghost use Rattle.std.specs.Prelude.{◌≡◌, ◌++◌, ◌∷◌, IfOk, map};
+ghost use Rattle.std.specs.Prelude.{◌≡◌, ◌++◌, ◌∷◌, [], IfOk, OnOk, map};
 ghost use Rattle.sql_grammar.specs.declared.symbol.Symbol.TheVariants as symbol;
 ghost use Rattle.sql_grammar.specs.declared.token.Token.TheVariants as token;
-ghost use Rattle.sql_grammar.specs.Readers.{one_at, maybe_at, then_at};
+ghost use Rattle.sql_grammar.specs.Readers.{one_at, after_at, maybe_at, then_at, expression_at};
 ghost use Rattle.sql_grammar.specs.Statements.{key_of, conditions_of, Following};
-ghost use Rattle.sql_grammar.specs.Reading.{name_at, item_at, items_at, alias_at, source_at, join_at, joined_at, sources_at, ref_at, group_at, direction_at, key_at, order_at, from_at, select_at};
+ghost use Rattle.sql_grammar.specs.Reading.{name_at, item_at, items_at, alias_at, source_at, join_at, joined_at, sources_at, ref_at, group_at, direction_at, key_at, order_at, filter_at, from_at, select_at};
 ghost use Rattle.sql_precedence.specs.Results.{AnswersReading};
 
 use crate::changes::filter;
@@ -81,6 +81,14 @@ fn source(terminals: &[Terminal], at: usize) -> Result<(TableRef, usize), Refuse
     Ok((TableRef { table, alias }, at))
 }
 
+// ON expr
+fn condition(alloc: Global, terminals: &[Terminal], at: usize) -> Result<(Expr, usize), Refused>
+    ensures { AnswersReading result (after_at (token.Symbol symbol.On) expression_at terminals.now at) }
+{
+    let at = expect(terminals, at, Symbol::On)?;
+    expression(alloc, terminals, at)
+}
+
 // source ON expr
 #[tactic(auto, unfolding(sql_grammar::specs::Reading::join_at))]
 fn join(
@@ -91,9 +99,13 @@ fn join(
     ensures { AnswersReading result (join_at terminals.now at) }
 {
     let (source, at) = source(terminals, at)?;
-    let at = expect(terminals, at, Symbol::On)?;
-    let (condition, at) = expression(alloc, terminals, at)?;
-    Ok(((source, Some(condition)), at))
+    match condition(alloc, terminals, at) {
+        Ok((condition, at)) => Ok(((source, Some(condition)), at)),
+        Err(refused) => {
+            drop(source);
+            Err(refused)
+        }
+    }
 }
 
 /// , source | [INNER] JOIN source ON expr
@@ -127,8 +139,13 @@ fn sources(
     ensures { AnswersReading result (sources_at terminals.now at) }
 {
     let (first, at) = source(terminals, at)?;
-    let (more, at) = many::<(TableRef, Option<Expr>)>(alloc, terminals, at)?;
-    Ok(((first, more), at))
+    match many::<(TableRef, Option<Expr>)>(alloc, terminals, at) {
+        Ok((more, at)) => Ok(((first, more), at)),
+        Err(refused) => {
+            drop(first);
+            Err(refused)
+        }
+    }
 }
 
 /// name [. name]
@@ -225,8 +242,57 @@ fn grouping(
     ensures { AnswersReading result (then_at group_at order_at terminals.now at) }
 {
     let (group, at) = group(alloc, terminals, at)?;
-    let (order, at) = order(alloc, terminals, at)?;
-    Ok(((group, order), at))
+    match order(alloc, terminals, at) {
+        Ok((order, at)) => Ok(((group, order), at)),
+        Err(refused) => {
+            drop(group);
+            Err(refused)
+        }
+    }
+}
+
+// A source, and its condition where it has one.
+fn put_part(
+    from: &mut List<TableRef>,
+    conditions: &mut List<Expr>,
+    part: (TableRef, Option<Expr>),
+) -> Result<(), Memory>
+    ensures from { OnOk result (from.new ≡ from.old ++ part.0 ∷ []) }
+    ensures conditions { OnOk result (conditions.new ≡ conditions.old ++ conditions_of (part ∷ [])) }
+{
+    let (source, condition) = part;
+    match condition {
+        None => {
+            from.push(source)?;
+            Ok(())
+        }
+        Some(condition) => match from.push(source) {
+            Ok(()) => {
+                conditions.push(condition)?;
+                Ok(())
+            }
+            Err((source, Memory)) => {
+                drop(source);
+                drop(condition);
+                Err(Memory)
+            }
+        },
+    }
+}
+
+// All of them, in order.
+fn put_parts(
+    from: &mut List<TableRef>,
+    conditions: &mut List<Expr>,
+    parts: List<(TableRef, Option<Expr>)>,
+) -> Result<(), Memory>
+    ensures from { OnOk result (from.new ≡ from.old ++ map (λ x. x.0) parts) }
+    ensures conditions { OnOk result (conditions.new ≡ conditions.old ++ conditions_of parts) }
+{
+    'parts: for part in parts.into_vec() {
+        put_part(from, conditions, part)?;
+    }
+    Ok(())
 }
 
 // The sources, and the conditions of those that have one.
@@ -239,16 +305,53 @@ fn parted(
 {
     let mut from = List::empty(alloc);
     let mut conditions = List::empty(alloc);
-    from.push(first)?;
-    'parts: for part in more.into_vec() {
-        let (source, condition) = part;
-        from.push(source)?;
-        match condition {
-            Some(condition) => conditions.push(condition)?,
-            None => {}
+    match from.push(first) {
+        Ok(()) => match put_parts(&mut from, &mut conditions, more) {
+            Ok(()) => Ok((from, conditions)),
+            Err(Memory) => {
+                drop(from);
+                drop(conditions);
+                Err(Memory)
+            }
+        },
+        Err((first, Memory)) => {
+            drop(first);
+            drop(more);
+            drop(from);
+            drop(conditions);
+            Err(Memory)
         }
     }
-    Ok((from, conditions))
+}
+
+// FROM source {, source | [INNER] JOIN source ON expr}
+fn from(
+    alloc: Global,
+    terminals: &[Terminal],
+    at: usize,
+) -> Result<((TableRef, List<(TableRef, Option<Expr>)>), usize), Refused>
+    ensures { AnswersReading result (after_at (token.Symbol symbol.From) sources_at terminals.now at) }
+{
+    let at = expect(terminals, at, Symbol::From)?;
+    sources(alloc, terminals, at)
+}
+
+// [WHERE expr] [GROUP BY ref {, ref}] [ORDER BY key {, key}]
+fn filtered(
+    alloc: Global,
+    terminals: &[Terminal],
+    at: usize,
+) -> Result<((Option<Expr>, (List<Ref>, List<Key>)), usize), Refused>
+    ensures { AnswersReading result (then_at filter_at (then_at group_at order_at) terminals.now at) }
+{
+    let (filter, at) = filter(alloc, terminals, at)?;
+    match grouping(alloc, terminals, at) {
+        Ok((grouped, at)) => Ok(((filter, grouped), at)),
+        Err(refused) => {
+            drop(filter);
+            Err(refused)
+        }
+    }
 }
 
 /// (* | item {, item}) FROM sources [WHERE expr] [GROUP BY ..] [ORDER BY ..]
@@ -257,12 +360,22 @@ pub fn select(alloc: Global, terminals: &[Terminal], at: usize) -> Result<(Stmt,
     ensures { AnswersReading result (select_at terminals.now at) }
 {
     let (items, at) = items(alloc, terminals, at)?;
-    let at = expect(terminals, at, Symbol::From)?;
-    let ((first, more), at) = sources(alloc, terminals, at)?;
-    let (from, conditions) = parted(alloc, first, more)?;
-    let (filter, at) = filter(alloc, terminals, at)?;
-    match grouping(alloc, terminals, at) {
-        Ok(((group, order), at)) => {
+    let ((first, more), at) = match from(alloc, terminals, at) {
+        Ok(read) => read,
+        Err(refused) => {
+            drop(items);
+            return Err(refused);
+        }
+    };
+    let (from, conditions) = match parted(alloc, first, more) {
+        Ok(parted) => parted,
+        Err(Memory) => {
+            drop(items);
+            return Err(Refused::Memory);
+        }
+    };
+    match filtered(alloc, terminals, at) {
+        Ok(((filter, (group, order)), at)) => {
             let select = Select {
                 items,
                 from,
@@ -274,7 +387,9 @@ pub fn select(alloc: Global, terminals: &[Terminal], at: usize) -> Result<(Stmt,
             Ok((Stmt::Select(select), at))
         }
         Err(refused) => {
-            drop(filter);
+            drop(items);
+            drop(from);
+            drop(conditions);
             Err(refused)
         }
     }

@@ -1,7 +1,0 @@
-use Rattle.std.proofs.Common.{◌≡◌, ◌∷◌, map}
-use Rattle.sql_grammar.specs.Statements.{conditions_of}
-use Rattle.sql_syntax.proofs.query.parted.Given as goal
-
--- the sources and the conditions of those taken so far
-abbrev pub invariant-parts : goal.invariant-parts
-invariant-parts l = (l.from ≡ l.fn.first ∷ map (λ x. x.0) l.yielded) × (l.conditions ≡ conditions_of l.yielded)
