@@ -64,6 +64,9 @@ impl Spelled for [u8; 32] {
     }
 }
 
+// The fields of a copy, in the order in which they lie in bytes.
+type CopyFields = (LinkNo, (Owner, ([u8; 32], Text)));
+
 #[tactic(auto, unfolding(crate::specs::Archive::file_copy))]
 impl Spelled for FileCopy {
     ghost use Rattle.dl_codec.specs.Archive.{file_copy};
@@ -78,10 +81,8 @@ impl Spelled for FileCopy {
     }
 
     fn get(alloc: Global, bytes: &[u8]) -> Result<(FileCopy, &[u8]), ReadFault> {
-        let (link, rest) = LinkNo::get(alloc, bytes)?;
-        let (owner, rest) = Owner::get(alloc, rest)?;
-        let (digest, rest) = <[u8; 32]>::get(alloc, rest)?;
-        let (content, rest) = Text::get(alloc, rest)?;
+        let ((link, (owner, last)), rest) = CopyFields::get(alloc, bytes)?;
+        let (digest, content) = last;
         let copy = FileCopy {
             link,
             owner,

@@ -74,6 +74,9 @@ impl Spelled for TableImage {
     }
 }
 
+// What stands behind the tag of a backup.
+type BackupFields = (u64, (u64, List<TableImage>));
+
 #[tactic(auto, unfolding(crate::specs::Backups::backup_record))]
 impl Spelled for BackupRecord {
     ghost use Rattle.dl_codec.specs.Backups.{backup_record as layout_of_records};
@@ -94,9 +97,7 @@ impl Spelled for BackupRecord {
     fn get(alloc: Global, bytes: &[u8]) -> Result<(BackupRecord, &[u8]), ReadFault> {
         match bytes {
             [1, rest @ ..] => {
-                let (number, rest) = u64::get(alloc, rest)?;
-                let (commit, rest) = u64::get(alloc, rest)?;
-                let (tables, rest) = List::<TableImage>::get(alloc, rest)?;
+                let ((number, (commit, tables)), rest) = BackupFields::get(alloc, rest)?;
                 Ok((BackupRecord::Backup(number, commit, tables), rest))
             }
             _ => Err(ReadFault::Bad),

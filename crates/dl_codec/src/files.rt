@@ -46,8 +46,7 @@ impl Spelled for Owner {
     }
 
     fn get(alloc: Global, bytes: &[u8]) -> Result<(Owner, &[u8]), ReadFault> {
-        let (name, rest) = Name::get(alloc, bytes)?;
-        let (writable, rest) = bool::get(alloc, rest)?;
+        let ((name, writable), rest) = <(Name, bool)>::get(alloc, bytes)?;
         Ok((Owner { name, writable }, rest))
     }
 }
@@ -126,6 +125,9 @@ impl Spelled for FileChange {
     }
 }
 
+// What stands behind the tag of a batch.
+type BatchFields = (u64, List<FileChange>);
+
 #[tactic(auto, unfolding(crate::specs::Files::files_record))]
 impl Spelled for FilesRecord {
     ghost use Rattle.dl_codec.specs.Files.{files_record as layout_of_records};
@@ -145,8 +147,7 @@ impl Spelled for FilesRecord {
     fn get(alloc: Global, bytes: &[u8]) -> Result<(FilesRecord, &[u8]), ReadFault> {
         match bytes {
             [1, rest @ ..] => {
-                let (tx, rest) = u64::get(alloc, rest)?;
-                let (changes, rest) = List::<FileChange>::get(alloc, rest)?;
+                let ((tx, changes), rest) = BatchFields::get(alloc, rest)?;
                 Ok((FilesRecord::Batch(tx, changes), rest))
             }
             _ => Err(ReadFault::Bad),

@@ -1,7 +1,8 @@
 // The records of the area Rows.
 ghost use Rattle.std.specs.Prelude.{◌≡◌, ◌++◌, OnOk, OnErr, IfOk};
-ghost use Rattle.dl_codec.specs.Layout.{Decodes, whole};
-ghost use Rattle.dl_codec.specs.Rows.{rows_record};
+ghost use Rattle.dl_codec.specs.Layout.{AnswersReading, Decodes, behind, whole};
+ghost use Rattle.dl_codec.specs.Rows.{kept_fields, new_fields, rows_record};
+ghost use Rattle.dl_codec.specs.declared.rows.TableChange.TheVariants as changes;
 
 use crate::read_fault::ReadFault;
 use crate::spelled::Spelled;
@@ -110,15 +111,40 @@ impl Spelled for TableChange {
         let (table, rest) = Name::get(alloc, bytes)?;
         match rest {
             [0, rest @ ..] => Ok((TableChange::Dropped(table), rest)),
-            [1, rest @ ..] => {
-                let ((columns, (next, rows)), rest) = NewFields::get(alloc, rest)?;
-                Ok((TableChange::New(table, columns, next, rows), rest))
+            [1, rest @ ..] => new_table(alloc, table, rest),
+            [2, rest @ ..] => kept_table(alloc, table, rest),
+            _ => {
+                drop(table);
+                Err(ReadFault::Bad)
             }
-            [2, rest @ ..] => {
-                let ((next, rows), rest) = KeptFields::get(alloc, rest)?;
-                Ok((TableChange::Kept(table, next, rows), rest))
-            }
-            _ => Err(ReadFault::Bad),
+        }
+    }
+}
+
+// The change of a table that is new, whose fields stand at the front.
+fn new_table(alloc: Global, table: Name, bytes: &[u8]) -> Result<(TableChange, &[u8]), ReadFault>
+    ensures { AnswersReading (λ x. (x.0, x.1.now)) result (behind (λ p. changes.New table p.0 p.1.0 p.1.1) new_fields bytes.now) }
+{
+    match NewFields::get(alloc, bytes) {
+        Ok(((columns, (next, rows)), rest)) => {
+            Ok((TableChange::New(table, columns, next, rows), rest))
+        }
+        Err(fault) => {
+            drop(table);
+            Err(fault)
+        }
+    }
+}
+
+// The change of a table that stays, whose fields stand at the front.
+fn kept_table(alloc: Global, table: Name, bytes: &[u8]) -> Result<(TableChange, &[u8]), ReadFault>
+    ensures { AnswersReading (λ x. (x.0, x.1.now)) result (behind (λ p. changes.Kept table p.0 p.1) kept_fields bytes.now) }
+{
+    match KeptFields::get(alloc, bytes) {
+        Ok(((next, rows), rest)) => Ok((TableChange::Kept(table, next, rows), rest)),
+        Err(fault) => {
+            drop(table);
+            Err(fault)
         }
     }
 }

@@ -20,8 +20,7 @@ impl Spelled for LinkNo {
     }
 
     fn get(alloc: Global, bytes: &[u8]) -> Result<(LinkNo, &[u8]), ReadFault> {
-        let (tx, rest) = u64::get(alloc, bytes)?;
-        let (k, rest) = u32::get(alloc, rest)?;
+        let ((tx, k), rest) = <(u64, u32)>::get(alloc, bytes)?;
         Ok((LinkNo { tx, k }, rest))
     }
 }
@@ -93,6 +92,9 @@ impl Spelled for OnUnlink {
     }
 }
 
+// The fields of options, in the order in which they lie in bytes.
+type OptionFields = (ReadBy, (WriteBy, (bool, OnUnlink)));
+
 #[tactic(auto, unfolding(crate::specs::Values::options))]
 impl Spelled for Options {
     ghost use Rattle.dl_codec.specs.Values.{options};
@@ -110,10 +112,7 @@ impl Spelled for Options {
     }
 
     fn get(alloc: Global, bytes: &[u8]) -> Result<(Options, &[u8]), ReadFault> {
-        let (read, rest) = ReadBy::get(alloc, bytes)?;
-        let (write, rest) = WriteBy::get(alloc, rest)?;
-        let (recovery, rest) = bool::get(alloc, rest)?;
-        let (unlink, rest) = OnUnlink::get(alloc, rest)?;
+        let ((read, (write, (recovery, unlink))), rest) = OptionFields::get(alloc, bytes)?;
         let options = Options {
             read,
             write,
@@ -128,6 +127,9 @@ impl Spelled for Options {
     }
 }
 
+// The fields of a link, in the order in which they lie in bytes.
+type LinkFields = (LinkNo, (Path, Options));
+
 #[tactic(auto, unfolding(crate::specs::Values::link_row))]
 impl Spelled for LinkRow {
     ghost use Rattle.dl_codec.specs.Values.{link_row};
@@ -141,9 +143,7 @@ impl Spelled for LinkRow {
     }
 
     fn get(alloc: Global, bytes: &[u8]) -> Result<(LinkRow, &[u8]), ReadFault> {
-        let (link, rest) = LinkNo::get(alloc, bytes)?;
-        let (path, rest) = Path::get(alloc, rest)?;
-        let (options, rest) = Options::get(alloc, rest)?;
+        let ((link, (path, options)), rest) = LinkFields::get(alloc, bytes)?;
         Ok((
             LinkRow {
                 link,
@@ -216,6 +216,9 @@ impl Spelled for Kind {
     }
 }
 
+// The fields of a column, in the order in which they lie in bytes.
+type ColumnFields = (Name, (Kind, ColumnRule));
+
 #[tactic(auto, unfolding(crate::specs::Values::column))]
 impl Spelled for Column {
     ghost use Rattle.dl_codec.specs.Values.{column};
@@ -229,12 +232,13 @@ impl Spelled for Column {
     }
 
     fn get(alloc: Global, bytes: &[u8]) -> Result<(Column, &[u8]), ReadFault> {
-        let (name, rest) = Name::get(alloc, bytes)?;
-        let (kind, rest) = Kind::get(alloc, rest)?;
-        let (rule, rest) = ColumnRule::get(alloc, rest)?;
+        let ((name, (kind, rule)), rest) = ColumnFields::get(alloc, bytes)?;
         Ok((Column { name, kind, rule }, rest))
     }
 }
+
+// The fields of a datalink, in the order in which they lie in bytes.
+type DatalinkFields = (Text, (Path, (Text, Option<LinkNo>)));
 
 #[tactic(auto, unfolding(crate::specs::Values::datalink))]
 impl Spelled for Dl {
@@ -250,10 +254,7 @@ impl Spelled for Dl {
     }
 
     fn get(alloc: Global, bytes: &[u8]) -> Result<(Dl, &[u8]), ReadFault> {
-        let (location, rest) = Text::get(alloc, bytes)?;
-        let (path, rest) = Path::get(alloc, rest)?;
-        let (comment, rest) = Text::get(alloc, rest)?;
-        let (link, rest) = Option::<LinkNo>::get(alloc, rest)?;
+        let ((location, (path, (comment, link))), rest) = DatalinkFields::get(alloc, bytes)?;
         let datalink = Dl {
             location,
             path,

@@ -1,5 +1,6 @@
 // What the records of the area Files stand for.
-ghost use Rattle.std.specs.Prelude.{◌≡◌, ◌≢◌, ◌<◌, ◌≤◌, ◌+◌, ◌^◌, ℕ, [], ◌∷◌, Some, None, Ok, Err, IsOk, IsSome, IfOk, OnErr, length};
+ghost use Rattle.std.specs.Prelude.{◌≡◌, ◌≢◌, ◌<◌, ◌≤◌, ◌+◌, ◌^◌, ℕ, [], ◌∷◌, Some, None, Ok, Err, IsOk, IsSome, IfOk, OnErr, OnOk, length};
+ghost use Rattle.std.specs.FinMap as map;
 ghost use Rattle.std.specs.Bool.{MatchBool};
 ghost use Rattle.dl_journal.specs.Records.{size};
 ghost use Rattle.fs_files.specs.Batch.{put_count, puts};
@@ -61,6 +62,25 @@ fn take_record(alloc: Global, table: &mut FileTable, body: &[u8]) -> Result<bool
     }
 }
 
+/// Takes the records of a list of bodies into an empty table.
+fn take_records(alloc: Global, table: &mut FileTable, bodies: &List<Text>) -> Result<(), BeginFault>
+    requires size { size bodies.now < 2 ^ 63 }
+    requires none { table.old.files ≡ map.empty }
+    ensures files { OnOk result (files_of bodies.now ≡ Ok table.new.files) }
+    ensures refused { (place : ℕ) → result ≡ Err (BeginFault.NotAJournal place) → files_of bodies.now ≡ Err place }
+    ensures some { OnErr result (0 < length bodies.now) }
+    ensures no_device { result ≢ Err BeginFault.Device }
+{
+    let mut place: u64 = 0;
+    for body in bodies.as_slice() {
+        if !take_record(alloc, table, body.bytes())? {
+            return Err(BeginFault::NotAJournal(place));
+        }
+        place += 9 + body.len() as u64;
+    }
+    Ok(())
+}
+
 /// The files that a list of bodies stands for, or the place of the first record that the fold refuses. No bodies take no memory.
 pub fn fold(alloc: Global, bodies: &List<Text>) -> Result<FileTable, BeginFault>
     requires { size bodies.now < 2 ^ 63 }
@@ -70,12 +90,11 @@ pub fn fold(alloc: Global, bodies: &List<Text>) -> Result<FileTable, BeginFault>
     ensures no_device { result ≢ Err BeginFault.Device }
 {
     let mut table = FileTable::empty(alloc);
-    let mut place: u64 = 0;
-    for body in bodies.as_slice() {
-        if !take_record(alloc, &mut table, body.bytes())? {
-            return Err(BeginFault::NotAJournal(place));
+    match take_records(alloc, &mut table, bodies) {
+        Ok(()) => Ok(table),
+        Err(fault) => {
+            drop(table);
+            Err(fault)
         }
-        place += 9 + body.len() as u64;
     }
-    Ok(table)
 }

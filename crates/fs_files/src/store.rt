@@ -462,15 +462,31 @@ fn owners(file: &File) -> Result<(Owner, Option<Owner>), Memory>
 fn one(alloc: Global, change: FileChange) -> Result<List<FileChange>, Memory>
     ensures { IfOk result (λ made. made ≡ change ∷ []) }
 {
-    let mut changes = List::empty(alloc);
-    changes.push(change)?;
-    Ok(changes)
+    pushed(List::empty(alloc), change)
 }
 
 fn two(alloc: Global, first: FileChange, second: FileChange) -> Result<List<FileChange>, Memory>
     ensures { IfOk result (λ made. made ≡ first ∷ second ∷ []) }
 {
-    let mut changes = one(alloc, first)?;
-    changes.push(second)?;
-    Ok(changes)
+    match one(alloc, first) {
+        Ok(changes) => pushed(changes, second),
+        Err(memory) => {
+            drop(second);
+            Err(memory)
+        }
+    }
+}
+
+// One more change behind some others.
+fn pushed(mut changes: List<FileChange>, change: FileChange) -> Result<List<FileChange>, Memory>
+    ensures { IfOk result (λ made. made ≡ changes ++ change ∷ []) }
+{
+    match changes.push(change) {
+        Ok(()) => Ok(changes),
+        Err(refused) => {
+            drop(refused);
+            drop(changes);
+            Err(Memory)
+        }
+    }
 }

@@ -1,5 +1,6 @@
 // The files in memory, by their paths.
 ghost use Rattle.std.specs.Prelude.{◌≡◌, ◌<◌, ◌≤◌, ◌+◌, ℕ, List, Some, IsOk, IfOk, OnOk, OnErr, is_some, false, nat_eq};
+ghost use Rattle.std.specs.BTreeMap.{insert_entry};
 ghost use Rattle.std.specs.Cmp.Lexicographic.{pointwise, slice_cmp};
 ghost use Rattle.std.specs.FinMap as map;
 ghost use Rattle.std.specs.Option.{option_copied, option_map};
@@ -114,10 +115,19 @@ fn sorted(alloc: Global, entries: &IndexMap<Path, File>) -> Result<BTreeMap<Path
 {
     let mut made = BTreeMap::new(alloc);
     for (path, file) in entries.iter() {
-        let path = path.copy()?;
-        made.insert(path, file.copy()?)?;
+        put_copy(&mut made, path, file)?;
     }
     Ok(made)
+}
+
+// Puts a copy of a file at a copy of its path.
+fn put_copy(made: &mut BTreeMap<Path, File>, path: &Path, file: &File) -> Result<(), Memory>
+    ensures { OnOk result (made.new.entries ≡ insert_entry (slice_cmp nat_cmp) made.old.entries path.now file.now) }
+{
+    let path = path.copy()?;
+    let file = file.copy()?;
+    drop(made.insert(path, file)?);
+    Ok(())
 }
 
 // The owners of the file at a path, if there is one.

@@ -5,5 +5,6 @@ pub mod Numbers
 pub mod Placing
 pub mod Steps
 pub mod Trees
+pub mod TypeEquations
 pub mod Typed
 pub mod Typing

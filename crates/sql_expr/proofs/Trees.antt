@@ -1,5 +1,5 @@
 -- What a tree says is what the expression says that it was made of, by induction over expressions.
-use Rattle.std.proofs.Common.{◌≡◌, ℕ, List, [], Option, Some, None, Result, Ok, Err, Bool, true, false, refl, ap, sym, subst, ◌∙◌, not}
+use Rattle.std.proofs.Common.{◌≡◌, ℕ, List, [], Option, Some, None, Result, Ok, Err, Bool, true, false, refl, ap, sym, subst, ◌∙◌}
 use Rattle.std.specs.Prelude.{map, if◌then◌else◌}
 use Rattle.std.specs.Option.{option_map}
 use Rattle.dl_base.specs.declared.sql_fault.SqlFault.{SqlFault}
@@ -11,13 +11,16 @@ use Rattle.dl_base.specs.declared.value.Value.TheVariants as values
 use Rattle.meaning_sql.specs.declared.Context.{Context}
 use Rattle.meaning_sql.specs.Columns.{Columns, place_of, kind_at, options_of, options_at}
 use Rattle.meaning_sql.specs.Conditions.{holds_all, is_true}
-use Rattle.meaning_sql.specs.Datalinks.{datalink, accessed}
+use Rattle.meaning_sql.specs.Datalinks.{datalink}
 use Rattle.meaning_sql.specs.Faults.{◌>>=◌, option_list}
-use Rattle.meaning_sql.specs.Operators.{truth_of, of_truth, not3, negated, binary, is_null, gathered}
+use Rattle.meaning_sql.specs.Operators.{binary, gathered}
 use Rattle.meaning_sql.specs.Values.{Denotation, denotation_at, denotation, meaning, plain, cell}
 use Rattle.sql_expr.specs.Binding.{Bound, Filter, bound_in, filter_in}
 use Rattle.sql_expr.specs.declared.tree.Tree.{Tree}
-use Rattle.sql_expr.specs.Trees.{column_tree, tree_at, tree_of, said, is_met}
+use Rattle.sql_expr.specs.declared.tree.Tree as trees
+use Rattle.sql_expr.specs.declared.tree.Unary.{Unary}
+use Rattle.sql_expr.specs.declared.tree.Unary.TheVariants as unaries
+use Rattle.sql_expr.specs.Trees.{absent, column_tree, tree_at, tree_of, said, unary_value, is_met}
 use Rattle.sql_expr.proofs.Equations as says
 
 module _ (columns : Columns) (context : Context) (group : List Row) where
@@ -39,34 +42,42 @@ module _ (columns : Columns) (context : Context) (group : List Row) where
   column_meant (Ok i) = says.said-Cell context group i (options_of (kind_at columns i))
   column_meant (Err e) = says.said-Nameless context group e
 
+  unary_meant : (op : Unary) (a : Tree) (p : Denotation) → said context group a ≡ p → said context group (trees.Unary op a) ≡ plain (λ row. p.at row >>= unary_value context p.under op)
+  unary_meant op a p h = says.said-Unary context group op a ∙ ap (λ (d : Denotation). plain (λ row. d.at row >>= unary_value context d.under op)) h
+
+  link_meant : (a b c : Tree) (p q r : Denotation) → said context group a ≡ p → said context group b ≡ q → said context group c ≡ r
+      → said context group (trees.Dlvalue a b c) ≡ plain (λ row. p.at row >>= λ x. q.at row >>= λ y. r.at row >>= λ z. datalink context.server x y z)
+  link_meant a b c p q r f g h =
+      says.said-Dlvalue context group a b c
+      ∙ ap (λ (d : Denotation). plain (λ row. d.at row >>= λ x. (said context group b).at row >>= λ y. (said context group c).at row >>= λ z. datalink context.server x y z)) f
+      ∙ ap (λ (d : Denotation). plain (λ row. p.at row >>= λ x. d.at row >>= λ y. (said context group c).at row >>= λ z. datalink context.server x y z)) g
+      ∙ ap (λ (d : Denotation). plain (λ row. p.at row >>= λ x. q.at row >>= λ y. d.at row >>= λ z. datalink context.server x y z)) h
+
+  abbrev null : Denotation
+  null = plain (λ row. Ok values.Null)
+
+  null_meant : said context group absent ≡ null
+  null_meant = says.said-Constant context group values.Null
+
   each : (y : Expr-F Meant) → LayerMeans (map-Expr Meant Expr (λ (e : Meant). e.0) y)
   each (level.Number z) = says.said-Constant context group (values.Int z)
   each (level.Literal t) = says.said-Constant context group (values.Text t)
   each level.Null = says.said-Constant context group values.Null
   each (level.Column r) = column_meant (place_of columns r)
-  each (level.Not a) = says.said-Not context group (tree_of columns a.0) ∙ ap (λ (d : Denotation). plain (λ row. d.at row >>= λ x. Ok (of_truth (not3 (truth_of x))))) a.1
-  each (level.Minus a) = says.said-Minus context group (tree_of columns a.0) ∙ ap (λ (d : Denotation). plain (λ row. d.at row >>= negated)) a.1
+  each (level.Not a) = unary_meant unaries.Not (tree_of columns a.0) (denotation columns context group a.0) a.1
+  each (level.Minus a) = unary_meant unaries.Minus (tree_of columns a.0) (denotation columns context group a.0) a.1
   each (level.Binary op a b) =
       says.said-Binary context group op (tree_of columns a.0) (tree_of columns b.0)
       ∙ ap (λ (d : Denotation). plain (λ row. d.at row >>= λ x. binary op x ((said context group (tree_of columns b.0)).at row))) a.1
       ∙ ap (λ (d : Denotation). plain (λ row. (denotation columns context group a.0).at row >>= λ x. binary op x (d.at row))) b.1
-  each (level.IsNull a is) =
-      says.said-IsNull context group (tree_of columns a.0) is ∙ ap (λ (d : Denotation). plain (λ row. d.at row >>= λ x. Ok (of_truth (Some (if is then is_null x else not (is_null x)))))) a.1
+  each (level.IsNull a is) = unary_meant (unaries.IsNull is) (tree_of columns a.0) (denotation columns context group a.0) a.1
   each level.CountAll = says.said-CountAll context group
   each (level.Aggregate f a) = says.said-Aggregate context group f (tree_of columns a.0) ∙ ap (λ (d : Denotation). plain (λ row. gathered f values.Null (map d.at group))) a.1
-  each (level.Dlvalue1 a) =
-      says.said-Dlvalue1 context group (tree_of columns a.0) ∙ ap (λ (d : Denotation). plain (λ row. d.at row >>= λ x. datalink context.server x values.Null values.Null)) a.1
-  each (level.Dlvalue2 a b) =
-      says.said-Dlvalue2 context group (tree_of columns a.0) (tree_of columns b.0)
-      ∙ ap (λ (d : Denotation). plain (λ row. d.at row >>= λ x. (said context group (tree_of columns b.0)).at row >>= λ y. datalink context.server x y values.Null)) a.1
-      ∙ ap (λ (d : Denotation). plain (λ row. (denotation columns context group a.0).at row >>= λ x. d.at row >>= λ y. datalink context.server x y values.Null)) b.1
+  each (level.Dlvalue1 a) = link_meant (tree_of columns a.0) absent absent (denotation columns context group a.0) null null a.1 null_meant null_meant
+  each (level.Dlvalue2 a b) = link_meant (tree_of columns a.0) (tree_of columns b.0) absent (denotation columns context group a.0) (denotation columns context group b.0) null a.1 b.1 null_meant
   each (level.Dlvalue3 a b c) =
-      says.said-Dlvalue3 context group (tree_of columns a.0) (tree_of columns b.0) (tree_of columns c.0)
-      ∙ ap (λ (d : Denotation). plain (λ row. d.at row >>= λ x. (said context group (tree_of columns b.0)).at row >>= λ y. (said context group (tree_of columns c.0)).at row >>= λ z. datalink context.server x y z)) a.1
-      ∙ ap (λ (d : Denotation). plain (λ row. (denotation columns context group a.0).at row >>= λ x. d.at row >>= λ y. (said context group (tree_of columns c.0)).at row >>= λ z. datalink context.server x y z)) b.1
-      ∙ ap (λ (d : Denotation). plain (λ row. (denotation columns context group a.0).at row >>= λ x. (denotation columns context group b.0).at row >>= λ y. d.at row >>= λ z. datalink context.server x y z)) c.1
-  each (level.Access part a) =
-      says.said-Access context group part (tree_of columns a.0) ∙ ap (λ (d : Denotation). plain (λ row. d.at row >>= λ x. Ok (accessed context d.under part x))) a.1
+      link_meant (tree_of columns a.0) (tree_of columns b.0) (tree_of columns c.0) (denotation columns context group a.0) (denotation columns context group b.0) (denotation columns context group c.0) a.1 b.1 c.1
+  each (level.Access part a) = unary_meant (unaries.Access part) (tree_of columns a.0) (denotation columns context group a.0) a.1
 
   pub tree_means : (e : Expr) → IsMeant e
   tree_means = ind-Expr IsMeant (λ x y is.

@@ -18,11 +18,17 @@ use Rattle.meaning_sql.specs.Values.{Denotation, plain, cell}
 use Rattle.sql_expr.specs.declared.tree.Tree.{Tree, Tree-F, fold-Tree}
 use Rattle.sql_expr.specs.declared.tree.Tree as trees
 use Rattle.sql_expr.specs.declared.tree.Tree.TheOpen as layer
+use Rattle.sql_expr.specs.declared.tree.Unary.{Unary}
+use Rattle.sql_expr.specs.declared.tree.Unary.TheVariants as unaries
 
 -- the tree of a column whose name means this place, or is refused so
 abbrev pub column_tree : Columns → Result ℕ SqlFault → Tree
 column_tree columns (Ok i) = trees.Cell i (options_of (kind_at columns i))
 column_tree columns (Err e) = trees.Nameless e
+
+-- an operand that is left out
+abbrev pub absent : Tree
+absent = trees.Constant values.Null
 
 -- one level of an expression, of the trees of its operands
 abbrev pub tree_at : Columns → Expr-F Tree → Tree
@@ -30,16 +36,16 @@ tree_at columns (level.Number z) = trees.Constant (values.Int z)
 tree_at columns (level.Literal t) = trees.Constant (values.Text t)
 tree_at columns level.Null = trees.Constant values.Null
 tree_at columns (level.Column r) = column_tree columns (place_of columns r)
-tree_at columns (level.Not a) = trees.Not a
-tree_at columns (level.Minus a) = trees.Minus a
+tree_at columns (level.Not a) = trees.Unary unaries.Not a
+tree_at columns (level.Minus a) = trees.Unary unaries.Minus a
 tree_at columns (level.Binary op a b) = trees.Binary op a b
-tree_at columns (level.IsNull a is) = trees.IsNull a is
+tree_at columns (level.IsNull a is) = trees.Unary (unaries.IsNull is) a
 tree_at columns level.CountAll = trees.CountAll
 tree_at columns (level.Aggregate f a) = trees.Aggregate f a
-tree_at columns (level.Dlvalue1 a) = trees.Dlvalue1 a
-tree_at columns (level.Dlvalue2 a b) = trees.Dlvalue2 a b
-tree_at columns (level.Dlvalue3 a b c) = trees.Dlvalue3 a b c
-tree_at columns (level.Access part a) = trees.Access part a
+tree_at columns (level.Dlvalue1 a) = trees.Dlvalue a absent absent
+tree_at columns (level.Dlvalue2 a b) = trees.Dlvalue a b absent
+tree_at columns (level.Dlvalue3 a b c) = trees.Dlvalue a b c
+tree_at columns (level.Access part a) = trees.Unary (unaries.Access part) a
 
 abbrev pub tree_of : Columns → Expr → Tree
 tree_of columns = fold-Expr Tree (tree_at columns)
@@ -48,21 +54,23 @@ tree_of columns = fold-Expr Tree (tree_at columns)
 abbrev pub cell_says : ℕ → Option Options → Denotation
 cell_says i under = record { under = under; at = λ row. Ok (cell row i) }
 
+-- what an operator makes of its one operand, which is a cell of a column under these options, if it is one
+abbrev pub unary_value : Context → Option Options → Unary → Value → Result Value SqlFault
+unary_value context under unaries.Not x = Ok (of_truth (not3 (truth_of x)))
+unary_value context under unaries.Minus x = negated x
+unary_value context under (unaries.IsNull is) x = Ok (of_truth (Some (if is then is_null x else not (is_null x))))
+unary_value context under (unaries.Access part) x = Ok (accessed context under part x)
+
 -- one level of a tree, of what its operands say
 abbrev pub said_at : Context → List Row → Tree-F Denotation → Denotation
 said_at context group (layer.Constant v) = plain (λ row. Ok v)
 said_at context group (layer.Cell i under) = cell_says i under
 said_at context group (layer.Nameless e) = plain (λ row. Err e)
-said_at context group (layer.Not a) = plain (λ row. a.at row >>= λ x. Ok (of_truth (not3 (truth_of x))))
-said_at context group (layer.Minus a) = plain (λ row. a.at row >>= negated)
+said_at context group (layer.Unary op a) = plain (λ row. a.at row >>= unary_value context a.under op)
 said_at context group (layer.Binary op a b) = plain (λ row. a.at row >>= λ x. binary op x (b.at row))
-said_at context group (layer.IsNull a is) = plain (λ row. a.at row >>= λ x. Ok (of_truth (Some (if is then is_null x else not (is_null x)))))
 said_at context group layer.CountAll = plain (λ row. Ok (values.Int (pos (length group))))
 said_at context group (layer.Aggregate f a) = plain (λ row. gathered f values.Null (map a.at group))
-said_at context group (layer.Dlvalue1 a) = plain (λ row. a.at row >>= λ x. datalink context.server x values.Null values.Null)
-said_at context group (layer.Dlvalue2 a b) = plain (λ row. a.at row >>= λ x. b.at row >>= λ y. datalink context.server x y values.Null)
-said_at context group (layer.Dlvalue3 a b c) = plain (λ row. a.at row >>= λ x. b.at row >>= λ y. c.at row >>= λ z. datalink context.server x y z)
-said_at context group (layer.Access part a) = plain (λ row. a.at row >>= λ x. Ok (accessed context a.under part x))
+said_at context group (layer.Dlvalue a b c) = plain (λ row. a.at row >>= λ x. b.at row >>= λ y. c.at row >>= λ z. datalink context.server x y z)
 
 -- what a tree says, aggregates being over a group of rows
 abbrev pub said : Context → List Row → Tree → Denotation

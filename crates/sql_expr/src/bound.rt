@@ -113,8 +113,14 @@ pub fn value(
 ) -> Result<Value, SqlFault>
     ensures { Computes (λ v. v) result (meaning columns.now context.entry.now [] expr.now row.now) }
 {
-    let bound = Bound::new(alloc, expr, columns)?;
-    bound.value(alloc, row, context)
+    match Bound::new(alloc, expr, columns) {
+        Ok(bound) => {
+            let value = bound.value(alloc, row, context);
+            drop(bound);
+            value
+        }
+        Err(Memory) => Err(SqlFault::Memory),
+    }
 }
 
 /// The value of an expression at a row, as `value`, its aggregates being over a group of rows of the same columns.
@@ -128,6 +134,12 @@ pub fn evaluate(
 ) -> Result<Value, SqlFault>
     ensures { Computes (λ v. v) result (meaning columns.now context.entry.now group.now expr.now row.now) }
 {
-    let bound = Bound::new(alloc, expr, columns)?;
-    bound.evaluate(alloc, row, context, group)
+    match Bound::new(alloc, expr, columns) {
+        Ok(bound) => {
+            let value = bound.evaluate(alloc, row, context, group);
+            drop(bound);
+            value
+        }
+        Err(Memory) => Err(SqlFault::Memory),
+    }
 }

@@ -1,7 +1,7 @@
 // The type of an expression, or the first breach.
 ghost use Rattle.std.specs.Prelude.{◌≡◌, ◌&&◌, is_err, true, OnErr};
 ghost use Rattle.meaning_sql.specs.Faults as faults;
-ghost use Rattle.meaning_sql.specs.Faults.{Computes, Follows};
+ghost use Rattle.meaning_sql.specs.Faults.{Computes, Follows, and_then};
 ghost use Rattle.meaning_sql.specs.Types.{type_of};
 ghost use Rattle.meaning_sql.specs.Types as meaning;
 ghost use Rattle.sql_expr.specs.Operands.{RefusesAs, suits};
@@ -25,7 +25,6 @@ pub fn check(expr: &Expr, columns: &Columns) -> Result<SqlType, SqlFault>
 
 /// The type of an expression at a place where that may stand, or its first breach, as `check`. An aggregate out of its place is
 /// refused before its operand, and a column outside of an aggregate that is no grouping column is refused at that column.
-#[tactic(auto, using(crate::proofs::Steps::refused_first, crate::proofs::Steps::refused_second, crate::proofs::Steps::refused_third))]
 pub fn check_in(expr: &Expr, columns: &Columns, scope: &AggregateScope) -> Result<SqlType, SqlFault>
     ensures of_type { Computes (λ t. t) result (type_of columns.now scope.now expr.now) }
     ensures accepted { OnErr result (is_err (type_of columns.now scope.now expr.now) ≡ true) }
@@ -43,44 +42,34 @@ pub fn check_in(expr: &Expr, columns: &Columns, scope: &AggregateScope) -> Resul
             let t = check_in(inner.get(), columns, scope);
             one_operand(t, Operand::Int, SqlType::Int)
         }
-        Expr::Binary(op, left, right) => match check_in(left.get(), columns, scope) {
-            Err(fault) => Err(fault),
-            Ok(t) => right_side(*op, t, check_in(right.get(), columns, scope)),
-        },
+        Expr::Binary(op, left, right) => {
+            let t = check_in(left.get(), columns, scope);
+            let u = check_in(right.get(), columns, scope);
+            two_operands(*op, t, u)
+        }
         Expr::IsNull(inner, _) => {
             let t = check_in(inner.get(), columns, scope);
             one_operand(t, Operand::Cell, SqlType::Truth)
         }
         Expr::CountAll => typed(takes_aggregate(scope), SqlType::Int),
         Expr::Aggregate(fold, inner) => {
-            if !takes_aggregate(scope) {
-                return Err(SqlFault::TypeFault);
-            }
             let t = check_in(inner.get(), columns, &AggregateScope::Row);
-            folded(*fold, t)
+            folded(takes_aggregate(scope), *fold, t)
         }
         Expr::Dlvalue1(location) => {
             let t = check_in(location.get(), columns, scope);
             one_operand(t, Operand::Text, SqlType::Link)
         }
-        Expr::Dlvalue2(location, linktype) => match check_in(location.get(), columns, scope) {
-            Err(fault) => Err(fault),
-            Ok(t) => {
-                let u = check_in(linktype.get(), columns, scope);
-                texts(true, is_text(t), u)
-            }
-        },
+        Expr::Dlvalue2(location, linktype) => {
+            let t = check_in(location.get(), columns, scope);
+            let u = check_in(linktype.get(), columns, scope);
+            texts(t, u, Ok(SqlType::Null))
+        }
         Expr::Dlvalue3(location, linktype, comment) => {
-            match check_in(location.get(), columns, scope) {
-                Err(fault) => Err(fault),
-                Ok(t) => match check_in(linktype.get(), columns, scope) {
-                    Err(fault) => Err(fault),
-                    Ok(u) => {
-                        let v = check_in(comment.get(), columns, scope);
-                        texts(is_text(t), is_text(u), v)
-                    }
-                },
-            }
+            let t = check_in(location.get(), columns, scope);
+            let u = check_in(linktype.get(), columns, scope);
+            let v = check_in(comment.get(), columns, scope);
+            texts(t, u, v)
         }
         Expr::Access(_, inner) => {
             let t = check_in(inner.get(), columns, scope);
@@ -89,7 +78,7 @@ pub fn check_in(expr: &Expr, columns: &Columns, scope: &AggregateScope) -> Resul
     }
 }
 
-// What the last operand gave is handed on whole, a refusal too: each of these takes the step of one operator on it.
+// What an operand gave is handed on whole, a refusal too: each of these takes the step of one operator on it.
 
 fn one_operand(
     operand: Result<SqlType, SqlFault>,
@@ -105,34 +94,69 @@ fn one_operand(
     }
 }
 
-fn right_side(op: Op, t: SqlType, right: Result<SqlType, SqlFault>) -> Result<SqlType, SqlFault>
-    ensures of_type { Follows right (meaning.binary_type op t) result }
-    ensures accepted { RefusesAs right (meaning.binary_type op t) result }
+#[tactic(auto, using(crate::proofs::Steps::refused_first, crate::proofs::Steps::refused_second))]
+fn two_operands(
+    op: Op,
+    left: Result<SqlType, SqlFault>,
+    right: Result<SqlType, SqlFault>,
+) -> Result<SqlType, SqlFault>
+    ensures of_type { (m n : _) → Computes (λ t. t) left m → Computes (λ u. u) right n → Computes (λ t. t) result (and_then m (λ t. and_then n (meaning.binary_type op t))) }
+    ensures accepted { (m n : _) → Computes (λ t. t) left m → Computes (λ u. u) right n → OnErr left (is_err m ≡ true) → OnErr right (is_err n ≡ true) → OnErr result (is_err (and_then m (λ t. and_then n (meaning.binary_type op t))) ≡ true) }
 {
-    match right {
-        Ok(u) => binary_type(op, t, u),
-        Err(fault) => Err(fault),
+    match left {
+        Ok(t) => match right {
+            Ok(u) => binary_type(op, t, u),
+            Err(fault) => Err(fault),
+        },
+        Err(fault) => {
+            drop(right);
+            Err(fault)
+        }
     }
 }
 
-fn folded(fold: Fold, operand: Result<SqlType, SqlFault>) -> Result<SqlType, SqlFault>
-    ensures of_type { Follows operand (meaning.aggregate_type fold) result }
-    ensures accepted { RefusesAs operand (meaning.aggregate_type fold) result }
+// The type of an aggregate, which may stand here or not.
+fn folded(stands: bool, fold: Fold, operand: Result<SqlType, SqlFault>) -> Result<SqlType, SqlFault>
+    ensures of_type { (m : _) → Computes (λ t. t) operand m → Computes (λ t. t) result (and_then (faults.typed stands AggregateScope.Row) (λ _r. and_then m (meaning.aggregate_type fold))) }
+    ensures accepted { (m : _) → Computes (λ t. t) operand m → OnErr operand (is_err m ≡ true) → OnErr result (is_err (and_then (faults.typed stands AggregateScope.Row) (λ _r. and_then m (meaning.aggregate_type fold))) ≡ true) }
 {
-    match operand {
-        Ok(t) => aggregate_type(fold, t),
-        Err(fault) => Err(fault),
+    if stands {
+        match operand {
+            Ok(t) => aggregate_type(fold, t),
+            Err(fault) => Err(fault),
+        }
+    } else {
+        drop(operand);
+        Err(SqlFault::TypeFault)
     }
 }
 
-// The last of the operands of DLVALUE, where two tests have been made before it.
-fn texts(first: bool, second: bool, last: Result<SqlType, SqlFault>) -> Result<SqlType, SqlFault>
-    ensures of_type { Follows last (λ t. faults.typed (first && second && meaning.is_text t) SqlType.Link) result }
-    ensures accepted { RefusesAs last (λ t. faults.typed (first && second && meaning.is_text t) SqlType.Link) result }
+// The operands of DLVALUE; one that is left out is NULL.
+#[tactic(auto, using(crate::proofs::Steps::refused_first, crate::proofs::Steps::refused_second, crate::proofs::Steps::refused_third))]
+fn texts(
+    location: Result<SqlType, SqlFault>,
+    linktype: Result<SqlType, SqlFault>,
+    comment: Result<SqlType, SqlFault>,
+) -> Result<SqlType, SqlFault>
+    ensures of_type { (m n o : _) → Computes (λ t. t) location m → Computes (λ u. u) linktype n → Computes (λ v. v) comment o → Computes (λ t. t) result (and_then m (λ t. and_then n (λ u. and_then o (λ v. faults.typed (meaning.is_text t && meaning.is_text u && meaning.is_text v) SqlType.Link)))) }
+    ensures accepted { (m n o : _) → Computes (λ t. t) location m → Computes (λ u. u) linktype n → Computes (λ v. v) comment o → OnErr location (is_err m ≡ true) → OnErr linktype (is_err n ≡ true) → OnErr comment (is_err o ≡ true) → OnErr result (is_err (and_then m (λ t. and_then n (λ u. and_then o (λ v. faults.typed (meaning.is_text t && meaning.is_text u && meaning.is_text v) SqlType.Link)))) ≡ true) }
 {
-    match last {
-        Ok(t) => typed(first && second && is_text(t), SqlType::Link),
-        Err(fault) => Err(fault),
+    match location {
+        Ok(t) => match linktype {
+            Ok(u) => match comment {
+                Ok(v) => typed(is_text(t) && is_text(u) && is_text(v), SqlType::Link),
+                Err(fault) => Err(fault),
+            },
+            Err(fault) => {
+                drop(comment);
+                Err(fault)
+            }
+        },
+        Err(fault) => {
+            drop(linktype);
+            drop(comment);
+            Err(fault)
+        }
     }
 }
 

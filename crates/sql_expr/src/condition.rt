@@ -6,7 +6,7 @@ ghost use Rattle.meaning_sql.specs.Conditions as meant;
 use crate::bound::Bound;
 use crate::checking::check_in;
 use crate::types::is_truth;
-use dl_base::{Expr, Row, SqlFault, Value};
+use dl_base::{Expr, Memory, Row, SqlFault, Value};
 use meaning_sql::{AggregateScope, Columns, Context, SqlType};
 use std::alloc::Global;
 
@@ -43,8 +43,14 @@ pub fn holds(
 ) -> Result<bool, SqlFault>
     ensures { Computes (λ b. b) result (meant.holds_one columns.now context.entry.now condition.now row.now) }
 {
-    let bound = Bound::new(alloc, condition, columns)?;
-    bound.holds(alloc, row, context)
+    match Bound::new(alloc, condition, columns) {
+        Ok(bound) => {
+            let holds = bound.holds(alloc, row, context);
+            drop(bound);
+            holds
+        }
+        Err(Memory) => Err(SqlFault::Memory),
+    }
 }
 
 /// Whether the condition of WHERE, where there is one, is true of a row.

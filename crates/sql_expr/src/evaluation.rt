@@ -1,5 +1,5 @@
 // The value of a tree at a row. Cells and constants are looked at where they stand.
-ghost use Rattle.std.specs.Prelude.{◌≡◌, ◌<◌, ◌^◌, [], length, map, not, pos, IfOk, Ok, Option, if◌then◌else◌};
+ghost use Rattle.std.specs.Prelude.{◌≡◌, ◌<◌, ◌^◌, [], length, map, pos, IfOk, Ok};
 ghost use Rattle.meaning_sql.specs.Conditions as conditions_meant;
 ghost use Rattle.meaning_sql.specs.Datalinks as links_meant;
 ghost use Rattle.meaning_sql.specs.Faults.{Computes, and_then};
@@ -7,7 +7,7 @@ ghost use Rattle.meaning_sql.specs.Operators as meant;
 ghost use Rattle.meaning_sql.specs.Values.{cell};
 ghost use Rattle.sql_expr.specs.Combining.{combined_row};
 ghost use Rattle.sql_expr.specs.Seeing.{FollowsSeen, GathersSeen, IsTold, seen};
-ghost use Rattle.sql_expr.specs.Trees.{said, said_value};
+ghost use Rattle.sql_expr.specs.Trees.{said, said_value, unary_value};
 
 use crate::aggregate::gather;
 use crate::cells::{Cells, cell_at};
@@ -15,9 +15,9 @@ use crate::condition::is_true;
 use crate::datalinks::{accessed, datalink};
 use crate::operator::{Ask, binary, left_side, negated};
 use crate::seen::{Seen, made};
-use crate::tree::Tree;
+use crate::tree::{Tree, Unary};
 use crate::truth::{is_null, not3, of_truth, truth_of};
-use dl_base::{Copied, Fold, Memory, Op, Options, Part, Row, SqlFault, Value};
+use dl_base::{Copied, Fold, Memory, Op, Options, Row, SqlFault, Value};
 use meaning_sql::Context;
 use std::alloc::Global;
 
@@ -110,8 +110,11 @@ fn value_over<'a>(
         Tree::Constant(value) => Ok(Seen::There(value)),
         Tree::Cell(place, _) => Ok(cell_at(row, *place)),
         Tree::Nameless(fault) => Err(refused(fault)),
-        Tree::Not(inner) => negation(value_over(alloc, inner.get(), row, context, group)),
-        Tree::Minus(inner) => opposite_of(value_over(alloc, inner.get(), row, context, group)),
+        Tree::Unary(op, inner) => {
+            let operand = inner.get();
+            let x = value_over(alloc, operand, row, context, group);
+            unary(alloc, context, *op, under(operand), x)
+        }
         Tree::Binary(op, left, right) => {
             match left_side(*op, value_over(alloc, left.get(), row, context, group)) {
                 Ask::Refused(fault) => Err(fault),
@@ -119,12 +122,9 @@ fn value_over<'a>(
                 Ask::Asks(x) => after(*op, x, value_over(alloc, right.get(), row, context, group)),
             }
         }
-        Tree::IsNull(inner, is) => {
-            nullness(value_over(alloc, inner.get(), row, context, group), *is)
-        }
-        Tree::CountAll => Ok(Seen::Made(Value::Int(count(group)))),
+        Tree::CountAll => Ok(counted(group)),
         Tree::Aggregate(fold, inner) => {
-            let mut so_far = Value::Null;
+            let mut so_far = of_no_rows();
             let none = Cells::empty();
             'rows: for one in group {
                 let alone = none.extended(one);
@@ -139,38 +139,12 @@ fn value_over<'a>(
             }
             Ok(Seen::Made(so_far))
         }
-        Tree::Dlvalue1(location) => {
-            linked1(
-                alloc,
-                context,
-                value_over(alloc, location.get(), row, context, group),
-            )
+        Tree::Dlvalue(location, linktype, comment) => {
+            let x = value_over(alloc, location.get(), row, context, group);
+            let y = value_over(alloc, linktype.get(), row, context, group);
+            let z = value_over(alloc, comment.get(), row, context, group);
+            link_of(alloc, context, x, y, z)
         }
-        Tree::Dlvalue2(location, linktype) => {
-            match value_over(alloc, location.get(), row, context, group) {
-                Err(fault) => Err(fault),
-                Ok(x) => {
-                    let y = value_over(alloc, linktype.get(), row, context, group);
-                    linked2(alloc, context, x, y)
-                }
-            }
-        }
-        Tree::Dlvalue3(location, linktype, comment) => {
-            match value_over(alloc, location.get(), row, context, group) {
-                Err(fault) => Err(fault),
-                Ok(x) => match value_over(alloc, linktype.get(), row, context, group) {
-                    Err(fault) => Err(fault),
-                    Ok(y) => {
-                        let z = value_over(alloc, comment.get(), row, context, group);
-                        linked3(alloc, context, x, y, z)
-                    }
-                },
-            }
-        }
-        Tree::Access(part, inner) => match value_over(alloc, inner.get(), row, context, group) {
-            Err(fault) => Err(fault),
-            Ok(x) => part_of(alloc, context, x, under(inner.get()), *part),
-        },
     }
 }
 
@@ -217,42 +191,40 @@ fn refused(fault: &SqlFault) -> SqlFault
 
 // What an operand gave is handed on whole, a refusal too: each of these takes the step of one operator on it.
 
-fn negation<'a>(x: Result<Seen<'a>, SqlFault>) -> Result<Seen<'a>, SqlFault>
-    ensures { FollowsSeen x.entry (λ v. Ok (meant.of_truth (meant.not3 (meant.truth_of v)))) result }
+fn unary<'a>(
+    alloc: Global,
+    context: &Context,
+    op: Unary,
+    under: Option<Options>,
+    x: Result<Seen<'a>, SqlFault>,
+) -> Result<Seen<'a>, SqlFault>
+    ensures { FollowsSeen x.entry (unary_value context.entry.now under op) result }
 {
     match x {
         Ok(x) => {
-            let truth = not3(truth_of(x.get()));
+            let value = unary_value(alloc, context, op, under, x.get());
             drop(x);
-            Ok(Seen::Made(of_truth(truth)))
+            made(value)
         }
         Err(fault) => Err(fault),
     }
 }
 
-fn opposite_of<'a>(x: Result<Seen<'a>, SqlFault>) -> Result<Seen<'a>, SqlFault>
-    ensures { FollowsSeen x.entry meant.negated result }
+// What an operator makes of its one operand, which is a cell of a column under these options, if it is one.
+fn unary_value(
+    alloc: Global,
+    context: &Context,
+    op: Unary,
+    under: Option<Options>,
+    x: &Value,
+) -> Result<Value, SqlFault>
+    ensures { Computes (λ v. v) result (unary_value context.entry.now under op x.now) }
 {
-    match x {
-        Ok(x) => {
-            let opposite = negated(x.get());
-            drop(x);
-            made(opposite)
-        }
-        Err(fault) => Err(fault),
-    }
-}
-
-fn nullness<'a>(x: Result<Seen<'a>, SqlFault>, is: bool) -> Result<Seen<'a>, SqlFault>
-    ensures { FollowsSeen x.entry (λ v. Ok (meant.of_truth (Option.Some (if is then meant.is_null v else not (meant.is_null v))))) result }
-{
-    match x {
-        Ok(x) => {
-            let null = is_null(x.get());
-            drop(x);
-            Ok(Seen::Made(of_truth(Some(if is { null } else { !null }))))
-        }
-        Err(fault) => Err(fault),
+    match op {
+        Unary::Not => Ok(of_truth(not3(truth_of(x)))),
+        Unary::Minus => negated(x),
+        Unary::IsNull(is) => Ok(of_truth(Some(if is { is_null(x) } else { !is_null(x) }))),
+        Unary::Access(part) => accessed(alloc, context, under, part, x),
     }
 }
 
@@ -273,11 +245,18 @@ fn after<'a>(op: Op, x: Seen<'a>, y: Result<Seen<'a>, SqlFault>) -> Result<Seen<
     }
 }
 
-fn count(group: &[Row]) -> i64
+fn counted<'a>(group: &[Row]) -> Seen<'a>
     requires { length group.now < 2 ^ 63 }
-    ensures { result ≡ pos (length group.now) }
+    ensures { seen result ≡ Value.Int (pos (length group.now)) }
 {
-    group.len() as i64
+    Seen::Made(Value::Int(group.len() as i64))
+}
+
+// The aggregate of no rows.
+fn of_no_rows() -> Value
+    ensures { result ≡ Value.Null }
+{
+    Value::Null
 }
 
 fn next_of(fold: Fold, x: Value, y: Result<Seen, SqlFault>) -> Result<Value, SqlFault>
@@ -298,46 +277,33 @@ fn next_of(fold: Fold, x: Value, y: Result<Seen, SqlFault>) -> Result<Value, Sql
     }
 }
 
-fn linked1<'a>(
+fn link_of<'a>(
     alloc: Global,
     context: &Context,
     x: Result<Seen<'a>, SqlFault>,
+    y: Result<Seen<'a>, SqlFault>,
+    z: Result<Seen<'a>, SqlFault>,
 ) -> Result<Seen<'a>, SqlFault>
-    ensures { FollowsSeen x.entry (λ a. links_meant.datalink context.entry.now.server a Value.Null Value.Null) result }
+    ensures { (a b c : _) → Computes seen x.entry a → Computes seen y.entry b → Computes seen z.entry c → Computes seen result (and_then a (λ p. and_then b (λ q. and_then c (links_meant.datalink context.entry.now.server p q)))) }
 {
     match x {
-        Ok(x) => {
-            let link = datalink(alloc, &context.server, x.get(), &Value::Null, &Value::Null);
-            drop(x);
-            made(link)
-        }
-        Err(fault) => Err(fault),
-    }
-}
-
-fn linked2<'a>(
-    alloc: Global,
-    context: &Context,
-    x: Seen<'a>,
-    y: Result<Seen<'a>, SqlFault>,
-) -> Result<Seen<'a>, SqlFault>
-    ensures { FollowsSeen y.entry (λ b. links_meant.datalink context.entry.now.server (seen x.entry) b Value.Null) result }
-{
-    match y {
-        Ok(y) => {
-            let link = datalink(alloc, &context.server, x.get(), y.get(), &Value::Null);
-            drop(x);
-            drop(y);
-            made(link)
-        }
+        Ok(x) => match y {
+            Ok(y) => linked(alloc, context, x, y, z),
+            Err(fault) => {
+                drop(x);
+                drop(z);
+                Err(fault)
+            }
+        },
         Err(fault) => {
-            drop(x);
+            drop(y);
+            drop(z);
             Err(fault)
         }
     }
 }
 
-fn linked3<'a>(
+fn linked<'a>(
     alloc: Global,
     context: &Context,
     x: Seen<'a>,
@@ -362,20 +328,6 @@ fn linked3<'a>(
     }
 }
 
-fn part_of<'a>(
-    alloc: Global,
-    context: &Context,
-    x: Seen<'a>,
-    options: Option<Options>,
-    part: Part,
-) -> Result<Seen<'a>, SqlFault>
-    ensures { Computes seen result (Ok (links_meant.accessed context.entry.now options part (seen x.entry))) }
-{
-    let text = accessed(alloc, context, options, part, x.get());
-    drop(x);
-    made(text)
-}
-
 // The options of the column that a tree is, if it is one under link control.
 fn under(tree: &Tree) -> Option<Options>
     ensures { (context : _) (group : _) → result ≡ (said context group tree.now).under }
@@ -384,15 +336,10 @@ fn under(tree: &Tree) -> Option<Options>
         Tree::Cell(_, options) => *options,
         Tree::Constant(_) => None,
         Tree::Nameless(_) => None,
-        Tree::Not(_) => None,
-        Tree::Minus(_) => None,
+        Tree::Unary(_, _) => None,
         Tree::Binary(_, _, _) => None,
-        Tree::IsNull(_, _) => None,
         Tree::CountAll => None,
         Tree::Aggregate(_, _) => None,
-        Tree::Dlvalue1(_) => None,
-        Tree::Dlvalue2(_, _) => None,
-        Tree::Dlvalue3(_, _, _) => None,
-        Tree::Access(_, _) => None,
+        Tree::Dlvalue(_, _, _) => None,
     }
 }

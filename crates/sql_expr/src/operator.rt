@@ -27,7 +27,10 @@ pub(crate) fn left_side<'a>(op: Op, x: Result<Seen<'a>, SqlFault>) -> Ask<'a>
     match x {
         Err(fault) => Ask::Refused(fault),
         Ok(x) => match decided(op, x.get()) {
-            Some(v) => Ask::Decided(v),
+            Some(v) => {
+                drop(x);
+                Ask::Decided(v)
+            }
             None => Ask::Asks(x),
         },
     }

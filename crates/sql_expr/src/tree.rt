@@ -5,7 +5,7 @@ ghost use Rattle.sql_expr.specs.Trees.{column_tree, tree_of};
 ghost use Rattle.sql_expr.specs.declared.tree.Tree as trees;
 
 use crate::columns::{kind_at, options_of, place_of};
-use dl_base::{Boxed, Expr, Fold, Memory, Op, Options, Part, Ref, SqlFault, Value};
+use dl_base::{Boxed, Copied, Expr, Fold, Memory, Op, Options, Part, Ref, SqlFault, Text, Value};
 use meaning_sql::Columns;
 use std::alloc::Global;
 
@@ -18,18 +18,25 @@ pub enum Tree {
     Cell(usize, Option<Options>),
     /// A name that means no column or several: it is refused so wherever it is evaluated.
     Nameless(SqlFault),
-    Not(Boxed<Tree>),
-    Minus(Boxed<Tree>),
+    /// An operator of one operand.
+    Unary(Unary, Boxed<Tree>),
     Binary(Op, Boxed<Tree>, Boxed<Tree>),
-    /// IS NULL where it holds true, IS NOT NULL where it holds false.
-    IsNull(Boxed<Tree>, bool),
     /// COUNT(*).
     CountAll,
     Aggregate(Fold, Boxed<Tree>),
-    Dlvalue1(Boxed<Tree>),
-    Dlvalue2(Boxed<Tree>, Boxed<Tree>),
-    Dlvalue3(Boxed<Tree>, Boxed<Tree>, Boxed<Tree>),
-    Access(Part, Boxed<Tree>),
+    /// DLVALUE of a location, a link type and a comment; one that is left out is NULL.
+    Dlvalue(Boxed<Tree>, Boxed<Tree>, Boxed<Tree>),
+}
+
+/// An operator of one operand.
+#[derive(Clone, Copy)]
+pub enum Unary {
+    Not,
+    Minus,
+    /// IS NULL where it holds true, IS NOT NULL where it holds false.
+    IsNull(bool),
+    /// An accessor of a datalink.
+    Access(Part),
 }
 
 /// The tree of an expression in these columns.
@@ -38,51 +45,66 @@ pub(crate) fn tree_of(alloc: Global, expr: &Expr, columns: &Columns) -> Result<T
 {
     match expr {
         Expr::Number(z) => Ok(Tree::Constant(Value::Int(*z))),
-        Expr::Literal(text) => Ok(Tree::Constant(Value::Text(text.copy()?))),
-        Expr::Null => Ok(Tree::Constant(Value::Null)),
+        Expr::Literal(text) => literal_tree(text),
+        Expr::Null => Ok(null_tree()),
         Expr::Column(column) => column_tree(columns, column),
-        Expr::Not(inner) => match boxed(alloc, tree_of(alloc, inner.get(), columns)) {
-            Ok(inner) => Ok(Tree::Not(inner)),
-            Err(memory) => Err(memory),
-        },
-        Expr::Minus(inner) => match boxed(alloc, tree_of(alloc, inner.get(), columns)) {
-            Ok(inner) => Ok(Tree::Minus(inner)),
-            Err(memory) => Err(memory),
-        },
+        Expr::Not(inner) => unary_tree(alloc, Unary::Not, tree_of(alloc, inner.get(), columns)),
+        Expr::Minus(inner) => unary_tree(alloc, Unary::Minus, tree_of(alloc, inner.get(), columns)),
         Expr::Binary(op, left, right) => {
             let left = tree_of(alloc, left.get(), columns);
             let right = tree_of(alloc, right.get(), columns);
             binary_tree(alloc, *op, left, right)
         }
-        Expr::IsNull(inner, is) => match boxed(alloc, tree_of(alloc, inner.get(), columns)) {
-            Ok(inner) => Ok(Tree::IsNull(inner, *is)),
-            Err(memory) => Err(memory),
-        },
+        Expr::IsNull(inner, is) => {
+            unary_tree(
+                alloc,
+                Unary::IsNull(*is),
+                tree_of(alloc, inner.get(), columns),
+            )
+        }
         Expr::CountAll => Ok(Tree::CountAll),
-        Expr::Aggregate(fold, inner) => match boxed(alloc, tree_of(alloc, inner.get(), columns)) {
-            Ok(inner) => Ok(Tree::Aggregate(*fold, inner)),
-            Err(memory) => Err(memory),
-        },
-        Expr::Dlvalue1(location) => match boxed(alloc, tree_of(alloc, location.get(), columns)) {
-            Ok(location) => Ok(Tree::Dlvalue1(location)),
-            Err(memory) => Err(memory),
-        },
+        Expr::Aggregate(fold, inner) => {
+            aggregate_tree(alloc, *fold, tree_of(alloc, inner.get(), columns))
+        }
+        Expr::Dlvalue1(location) => {
+            let location = tree_of(alloc, location.get(), columns);
+            link_tree(alloc, location, Ok(null_tree()), Ok(null_tree()))
+        }
         Expr::Dlvalue2(location, linktype) => {
             let location = tree_of(alloc, location.get(), columns);
             let linktype = tree_of(alloc, linktype.get(), columns);
-            two_operands(alloc, location, linktype)
+            link_tree(alloc, location, linktype, Ok(null_tree()))
         }
         Expr::Dlvalue3(location, linktype, comment) => {
             let location = tree_of(alloc, location.get(), columns);
             let linktype = tree_of(alloc, linktype.get(), columns);
             let comment = tree_of(alloc, comment.get(), columns);
-            three_operands(alloc, location, linktype, comment)
+            link_tree(alloc, location, linktype, comment)
         }
-        Expr::Access(part, inner) => match boxed(alloc, tree_of(alloc, inner.get(), columns)) {
-            Ok(inner) => Ok(Tree::Access(*part, inner)),
-            Err(memory) => Err(memory),
-        },
+        Expr::Access(part, inner) => {
+            unary_tree(
+                alloc,
+                Unary::Access(*part),
+                tree_of(alloc, inner.get(), columns),
+            )
+        }
     }
+}
+
+fn literal_tree(text: &Text) -> Result<Tree, Memory>
+    ensures { IfOk result (λ t. t ≡ trees.Constant (Value.Text text.now)) }
+{
+    match text.copy() {
+        Ok(text) => Ok(Tree::Constant(Value::Text(text))),
+        Err(memory) => Err(memory),
+    }
+}
+
+// NULL, which an operand of DLVALUE that is left out is too.
+fn null_tree() -> Tree
+    ensures { result ≡ trees.Constant Value.Null }
+{
+    Tree::Constant(Value::Null)
 }
 
 // What an operand gave is handed on whole, want of memory too.
@@ -92,6 +114,24 @@ fn boxed(alloc: Global, tree: Result<Tree, Memory>) -> Result<Boxed<Tree>, Memor
 {
     match tree {
         Ok(tree) => Ok(Boxed::new(alloc, tree)?),
+        Err(memory) => Err(memory),
+    }
+}
+
+fn unary_tree(alloc: Global, op: Unary, operand: Result<Tree, Memory>) -> Result<Tree, Memory>
+    ensures { (t : _) → IfOk operand (λ x. x ≡ t) → IfOk result (λ x. x ≡ trees.Unary op t) }
+{
+    match boxed(alloc, operand) {
+        Ok(operand) => Ok(Tree::Unary(op, operand)),
+        Err(memory) => Err(memory),
+    }
+}
+
+fn aggregate_tree(alloc: Global, fold: Fold, operand: Result<Tree, Memory>) -> Result<Tree, Memory>
+    ensures { (t : _) → IfOk operand (λ x. x ≡ t) → IfOk result (λ x. x ≡ trees.Aggregate fold t) }
+{
+    match boxed(alloc, operand) {
+        Ok(operand) => Ok(Tree::Aggregate(fold, operand)),
         Err(memory) => Err(memory),
     }
 }
@@ -132,30 +172,17 @@ fn binary_tree(
     }
 }
 
-fn two_operands(
-    alloc: Global,
-    location: Result<Tree, Memory>,
-    linktype: Result<Tree, Memory>,
-) -> Result<Tree, Memory>
-    ensures { (t : _) (u : _) → IfOk location (λ x. x ≡ t) → IfOk linktype (λ x. x ≡ u) → IfOk result (λ x. x ≡ trees.Dlvalue2 t u) }
-{
-    match two_boxed(alloc, location, linktype) {
-        Ok((location, linktype)) => Ok(Tree::Dlvalue2(location, linktype)),
-        Err(memory) => Err(memory),
-    }
-}
-
-fn three_operands(
+fn link_tree(
     alloc: Global,
     location: Result<Tree, Memory>,
     linktype: Result<Tree, Memory>,
     comment: Result<Tree, Memory>,
 ) -> Result<Tree, Memory>
-    ensures { (t : _) (u : _) (v : _) → IfOk location (λ x. x ≡ t) → IfOk linktype (λ x. x ≡ u) → IfOk comment (λ x. x ≡ v) → IfOk result (λ x. x ≡ trees.Dlvalue3 t u v) }
+    ensures { (t : _) (u : _) (v : _) → IfOk location (λ x. x ≡ t) → IfOk linktype (λ x. x ≡ u) → IfOk comment (λ x. x ≡ v) → IfOk result (λ x. x ≡ trees.Dlvalue t u v) }
 {
     match two_boxed(alloc, location, linktype) {
         Ok((location, linktype)) => match boxed(alloc, comment) {
-            Ok(comment) => Ok(Tree::Dlvalue3(location, linktype, comment)),
+            Ok(comment) => Ok(Tree::Dlvalue(location, linktype, comment)),
             Err(memory) => {
                 drop(location);
                 drop(linktype);

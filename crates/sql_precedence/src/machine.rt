@@ -2,13 +2,20 @@
 //!
 //! Where an expression ends, `drop` is written: what would be let go without a word is proved variant by variant at each such place.
 
-ghost use Rattle.std.specs.Prelude.{◌≡◌, ◌∷◌, IfOk, None, Some};
+ghost use Rattle.std.specs.Prelude.{◌≡◌, ◌∷◌, ◌<◌, ◌&&◌, ℕ, suc, nat_lt, if◌then◌else◌, length, drop, IfOk, IsSome, None, Some};
+ghost use Rattle.std.specs.Option.{option_map};
+ghost use Rattle.dl_base.specs.declared.statement.Expr.{Expr};
 ghost use Rattle.dl_base.specs.declared.statement.Expr as expr;
-ghost use Rattle.sql_grammar.specs.Cues.{cue, cue_of, an_operator, an_is, a_close, a_comma};
+ghost use Rattle.sql_grammar.specs.Bounds.{most_open, most_operators};
+ghost use Rattle.sql_grammar.specs.Cues.{cue, cue_of, an_operator, a_not, an_is, a_close, a_comma};
 ghost use Rattle.sql_grammar.specs.Forms.{reference};
-ghost use Rattle.sql_grammar.specs.Machine.{reduced, move, ended, binds_at, applied, enclosed, need, frame_need, due, after, Go, move_after, leave, passed, call_open, callee_of};
+ghost use Rattle.sql_grammar.specs.Machine.{reduced, move, ended, binds_at, applied, enclosed, need, frame_need, due, after, Go, move_after, leave, closed, passed, call_open, callee_of, callees, look_up};
 ghost use Rattle.sql_grammar.specs.Machine as machine;
+ghost use Rattle.sql_grammar.specs.declared.frame.Callee.TheVariants as callee;
+ghost use Rattle.sql_grammar.specs.declared.frame.Frame.{Frame};
 ghost use Rattle.sql_grammar.specs.declared.frame.Frame.TheVariants as frame;
+ghost use Rattle.sql_grammar.specs.declared.frame.Opening.{Opening};
+ghost use Rattle.sql_grammar.specs.declared.frame.Opening.TheVariants as opening;
 ghost use Rattle.sql_precedence.specs.Views.{stack_of, state_of, move_of, cue_in, asked, counting};
 
 use crate::role::{Role, left, level, right, role_of};
@@ -145,29 +152,44 @@ fn applied(alloc: Global, frame: Frame, last: Expr) -> Result<Expr, Memory>
     }
 }
 
-// Applies what binds at least as tightly as `low`.
+// The last frame leaves, where it binds the operand after it at least as tightly as `low`.
 #[tactic(auto, using(crate::proofs::Stacks::stack_push))]
+fn pop_bound(frames: &mut Vec<Frame>, low: u8) -> Option<Frame>
+    ensures none { result ≡ None → (last : Expr) → reduced low (stack_of frames.old.items) last ≡ (stack_of frames.new.items, last) }
+    ensures some { (f : Frame) → result ≡ Some f → (last : Expr) → reduced low (stack_of frames.old.items) last ≡ reduced low (stack_of frames.new.items) (applied f last) }
+    ensures fewer { IsSome result → length frames.new.items < length frames.old.items }
+{
+    match frames.last() {
+        Some(frame) if binds(frame, low) => frames.pop(),
+        _ => None,
+    }
+}
+
+// Applies what binds at least as tightly as `low`.
 fn reduce(alloc: Global, frames: &mut Vec<Frame>, low: u8, last: Expr) -> Result<Expr, Memory>
     ensures { IfOk result (λ e. reduced low (stack_of frames.old.items) last ≡ (stack_of frames.new.items, e)) }
 {
     let mut value = last;
-    while let Some(frame) = frames.pop() {
-        if !binds(&frame, low) {
-            frames.push(frame)?;
-            break;
-        }
+    while let Some(frame) = pop_bound(frames, low) {
         value = applied(alloc, frame, value)?;
     }
     Ok(value)
+}
+
+// What is still open is let go.
+fn give_up(stack: Stack) -> Result<Step, Memory>
+    ensures { IfOk result (λ s. move_of s ≡ machine.Refuse) }
+{
+    drop(stack);
+    Ok(Step::Refuse)
 }
 
 // What is still open and the operand behind it are let go.
 fn refuse(stack: Stack, last: Expr) -> Result<Step, Memory>
     ensures { IfOk result (λ s. move_of s ≡ machine.Refuse) }
 {
-    drop(stack);
     drop(last);
-    Ok(Step::Refuse)
+    give_up(stack)
 }
 
 // A fourth argument of DLVALUE.
@@ -184,8 +206,42 @@ fn fourth(stack: Stack, first: Expr, second: Expr, third: Expr) -> Result<Step, 
 fn push(mut stack: Stack, frame: Frame) -> Result<Step, Memory>
     ensures { IfOk result (λ s. move_of s ≡ Go (due (frame ∷ stack_of stack.frames.items) stack.operators stack.parentheses)) }
 {
-    stack.frames.push(frame)?;
-    Ok(Step::Go(Reading::Due(stack)))
+    match stack.frames.push(frame) {
+        Ok(()) => Ok(Step::Go(Reading::Due(stack))),
+        Err(refused) => {
+            drop(refused);
+            drop(stack);
+            Err(Memory)
+        }
+    }
+}
+
+// One more frame, which counts as an operator.
+fn push_operator(mut stack: Stack, frame: Frame) -> Result<Step, Memory>
+    ensures { IfOk result (λ s. move_of s
+        ≡ (if nat_lt stack.operators most_operators then Go (due (frame ∷ stack_of stack.frames.items) (suc stack.operators) stack.parentheses) else machine.Refuse)) }
+{
+    if stack.operators < MAX_OPERATORS {
+        stack.operators += 1;
+        push(stack, frame)
+    } else {
+        drop(frame);
+        give_up(stack)
+    }
+}
+
+// One more parenthesis that is open.
+fn open(mut stack: Stack, opening: Opening) -> Result<Step, Memory>
+    ensures { IfOk result (λ s. move_of s
+        ≡ (if nat_lt stack.parentheses most_open then Go (due (frame.Opened opening ∷ stack_of stack.frames.items) stack.operators (suc stack.parentheses)) else machine.Refuse)) }
+{
+    if stack.parentheses < MAX_OPEN {
+        stack.parentheses += 1;
+        push(stack, Frame::Opened(opening))
+    } else {
+        drop(opening);
+        give_up(stack)
+    }
 }
 
 // How tightly the operand after a frame binds at least.
@@ -211,26 +267,29 @@ fn need(frames: &[Frame]) -> u8
     }
 }
 
+// NOT where an operand is due.
+fn negation(stack: Stack) -> Result<Step, Memory>
+    ensures { IfOk result (λ s. move_of s
+        ≡ move (due (stack_of stack.frames.items) stack.operators stack.parentheses) a_not) }
+{
+    if need(&stack.frames) <= 2 {
+        push_operator(stack, Frame::Negation)
+    } else {
+        give_up(stack)
+    }
+}
+
 // A symbol where an operand is due.
-fn operand_symbol(mut stack: Stack, symbol: Symbol) -> Result<Step, Memory>
+fn operand_symbol(stack: Stack, symbol: Symbol) -> Result<Step, Memory>
     ensures { IfOk result (λ s. move_of s
         ≡ move (due (stack_of stack.frames.items) stack.operators stack.parentheses) (cue_of symbol)) }
 {
     match role_of(symbol) {
-        Role::Operator(Op::Sub) if stack.operators < MAX_OPERATORS => {
-            stack.operators += 1;
-            push(stack, Frame::Sign)
-        }
-        Role::Not if need(&stack.frames) <= 2 && stack.operators < MAX_OPERATORS => {
-            stack.operators += 1;
-            push(stack, Frame::Negation)
-        }
-        Role::Open if stack.parentheses < MAX_OPEN => {
-            stack.parentheses += 1;
-            push(stack, Frame::Opened(Opening::Group))
-        }
+        Role::Operator(Op::Sub) => push_operator(stack, Frame::Sign),
+        Role::Not => negation(stack),
+        Role::Open => open(stack, Opening::Group),
         Role::Null => Ok(Step::Go(Reading::After(stack, Expr::Null, TIGHTEST))),
-        _ => Ok(Step::Refuse),
+        _ => give_up(stack),
     }
 }
 
@@ -242,14 +301,20 @@ fn operand(stack: Stack, terminal: &Terminal) -> Result<Step, Memory>
     match terminal {
         Terminal::Fixed(symbol) => operand_symbol(stack, *symbol),
         Terminal::Number(n) => Ok(Step::Go(Reading::After(stack, Expr::Number(*n), TIGHTEST))),
-        Terminal::Literal(text) => {
-            let text = text.copy()?;
-            Ok(Step::Go(Reading::After(stack, Expr::Literal(text), TIGHTEST)))
-        }
-        Terminal::Word(name) => {
-            let name = name.copy()?;
-            Ok(Step::Go(Reading::Named(stack, name)))
-        }
+        Terminal::Literal(text) => match text.copy() {
+            Ok(text) => Ok(Step::Go(Reading::After(stack, Expr::Literal(text), TIGHTEST))),
+            Err(memory) => {
+                drop(stack);
+                Err(memory)
+            }
+        },
+        Terminal::Word(name) => match name.copy() {
+            Ok(name) => Ok(Step::Go(Reading::Named(stack, name))),
+            Err(memory) => {
+                drop(stack);
+                Err(memory)
+            }
+        },
     }
 }
 
@@ -259,9 +324,8 @@ fn operator(alloc: Global, mut stack: Stack, last: Expr, bound: u8, op: Op) -> R
         ≡ move_after (stack_of stack.frames.items) last bound stack.operators stack.parentheses (an_operator op)) }
 {
     let value = reduce(alloc, &mut stack.frames, left(op), last)?;
-    if left(op) <= bound && need(&stack.frames) <= level(op) && stack.operators < MAX_OPERATORS {
-        stack.operators += 1;
-        push(stack, Frame::Infix(op, value))
+    if left(op) <= bound && need(&stack.frames) <= level(op) {
+        push_operator(stack, Frame::Infix(op, value))
     } else {
         refuse(stack, value)
     }
@@ -281,31 +345,52 @@ fn ask(alloc: Global, mut stack: Stack, last: Expr, bound: u8) -> Result<Step, M
     }
 }
 
-// A parenthesis that closes.
+// The last frame leaves; what it is behind, where it is a parenthesis.
 #[tactic(auto, using(crate::proofs::Stacks::stack_push))]
+fn pop_opening(frames: &mut Vec<Frame>) -> Option<Opening>
+    ensures some { (g : Opening) → result ≡ Some g → stack_of frames.old.items ≡ frame.Opened g ∷ stack_of frames.new.items }
+    ensures unclosed { result ≡ None → (last : Expr) (n p : ℕ) → closed (stack_of frames.old.items) last n p ≡ machine.Refuse }
+    ensures unpassed { result ≡ None → (last : Expr) (n p : ℕ) → passed (stack_of frames.old.items) last n p ≡ machine.Refuse }
+{
+    match frames.pop() {
+        Some(Frame::Opened(opening)) => Some(opening),
+        Some(other) => {
+            drop(other);
+            None
+        }
+        None => None,
+    }
+}
+
+// The operand that a parenthesis has enclosed.
+fn shut(alloc: Global, stack: Stack, opening: Opening, last: Expr) -> Result<Step, Memory>
+    ensures { IfOk result (λ s. move_of s ≡ Go (after (stack_of stack.frames.items) (enclosed opening last) 7 stack.operators stack.parentheses)) }
+{
+    match enclosed(alloc, opening, last) {
+        Ok(value) => Ok(Step::Go(Reading::After(stack, value, TIGHTEST))),
+        Err(memory) => {
+            drop(stack);
+            Err(memory)
+        }
+    }
+}
+
+// A parenthesis that closes.
 fn close(alloc: Global, mut stack: Stack, last: Expr, bound: u8) -> Result<Step, Memory>
     ensures { IfOk result (λ s. move_of s
         ≡ move_after (stack_of stack.frames.items) last bound stack.operators stack.parentheses a_close) }
 {
     let value = reduce(alloc, &mut stack.frames, 0, last)?;
     if stack.parentheses == 0 {
+        drop(stack);
         return Ok(Step::Stop(value));
     }
-    let Some(frame) = stack.frames.pop() else {
-        return refuse(stack, value);
-    };
-    match frame {
-        Frame::Opened(opening) => {
+    match pop_opening(&mut stack.frames) {
+        Some(opening) => {
             stack.parentheses -= 1;
-            let value = enclosed(alloc, opening, value)?;
-            Ok(Step::Go(Reading::After(stack, value, TIGHTEST)))
+            shut(alloc, stack, opening, value)
         }
-        Frame::Negation => refuse(stack, value),
-        Frame::Sign => refuse(stack, value),
-        Frame::Infix(_, before) => {
-            drop(before);
-            refuse(stack, value)
-        }
+        None => refuse(stack, value),
     }
 }
 
@@ -325,26 +410,18 @@ fn argument(stack: Stack, opening: Opening, value: Expr) -> Result<Step, Memory>
 }
 
 // A comma.
-#[tactic(auto, using(crate::proofs::Stacks::stack_push))]
 fn pass(alloc: Global, mut stack: Stack, last: Expr, bound: u8) -> Result<Step, Memory>
     ensures { IfOk result (λ s. move_of s
         ≡ move_after (stack_of stack.frames.items) last bound stack.operators stack.parentheses a_comma) }
 {
     let value = reduce(alloc, &mut stack.frames, 0, last)?;
     if stack.parentheses == 0 {
+        drop(stack);
         return Ok(Step::Stop(value));
     }
-    let Some(frame) = stack.frames.pop() else {
-        return refuse(stack, value);
-    };
-    match frame {
-        Frame::Opened(opening) => argument(stack, opening, value),
-        Frame::Negation => refuse(stack, value),
-        Frame::Sign => refuse(stack, value),
-        Frame::Infix(_, before) => {
-            drop(before);
-            refuse(stack, value)
-        }
+    match pop_opening(&mut stack.frames) {
+        Some(opening) => argument(stack, opening, value),
+        None => refuse(stack, value),
     }
 }
 
@@ -354,6 +431,7 @@ fn leave(alloc: Global, mut stack: Stack, last: Expr) -> Result<Step, Memory>
 {
     let value = reduce(alloc, &mut stack.frames, 0, last)?;
     if stack.parentheses == 0 {
+        drop(stack);
         Ok(Step::Stop(value))
     } else {
         refuse(stack, value)
@@ -387,6 +465,29 @@ fn behind(
     }
 }
 
+// The part of a link that a name before a parenthesis gives.
+fn part_of(name: &[u8]) -> Option<Part>
+    ensures { option_map (λ p. callee.Opens (opening.Access p)) result ≡ look_up (drop 5 callees) name.now }
+{
+    if same_bytes(name, b"dlcomment") {
+        Some(Part::Comment)
+    } else if same_bytes(name, b"dllinktype") {
+        Some(Part::LinkType)
+    } else if same_bytes(name, b"dlurlscheme") {
+        Some(Part::Scheme)
+    } else if same_bytes(name, b"dlurlserver") {
+        Some(Part::Server)
+    } else if same_bytes(name, b"dlurlpathonly") {
+        Some(Part::PathOnly)
+    } else if same_bytes(name, b"dlurlpath") {
+        Some(Part::Path)
+    } else if same_bytes(name, b"dlurlcomplete") {
+        Some(Part::Complete)
+    } else {
+        None
+    }
+}
+
 // What a name before a parenthesis calls.
 fn callee(name: &[u8]) -> Option<Callee>
     ensures { result ≡ callee_of name.now }
@@ -401,22 +502,11 @@ fn callee(name: &[u8]) -> Option<Callee>
         Some(Callee::Opens(Opening::Aggregate(Fold::Max)))
     } else if same_bytes(name, b"dlvalue") {
         Some(Callee::Opens(Opening::Dlvalue1))
-    } else if same_bytes(name, b"dlcomment") {
-        Some(Callee::Opens(Opening::Access(Part::Comment)))
-    } else if same_bytes(name, b"dllinktype") {
-        Some(Callee::Opens(Opening::Access(Part::LinkType)))
-    } else if same_bytes(name, b"dlurlscheme") {
-        Some(Callee::Opens(Opening::Access(Part::Scheme)))
-    } else if same_bytes(name, b"dlurlserver") {
-        Some(Callee::Opens(Opening::Access(Part::Server)))
-    } else if same_bytes(name, b"dlurlpathonly") {
-        Some(Callee::Opens(Opening::Access(Part::PathOnly)))
-    } else if same_bytes(name, b"dlurlpath") {
-        Some(Callee::Opens(Opening::Access(Part::Path)))
-    } else if same_bytes(name, b"dlurlcomplete") {
-        Some(Callee::Opens(Opening::Access(Part::Complete)))
     } else {
-        None
+        match part_of(name) {
+            Some(part) => Some(Callee::Opens(Opening::Access(part))),
+            None => None,
+        }
     }
 }
 
@@ -427,32 +517,47 @@ fn column(table: Option<Name>, column: Name) -> Expr
     Expr::Column(Ref { table, column })
 }
 
+// COUNT and its parenthesis.
+fn open_count(mut stack: Stack) -> Result<Step, Memory>
+    ensures { IfOk result (λ s. move_of s
+        ≡ (if nat_lt stack.operators most_operators && nat_lt stack.parentheses most_open then Go (machine.star_due (stack_of stack.frames.items) (suc stack.operators) stack.parentheses) else machine.Refuse)) }
+{
+    if stack.operators < MAX_OPERATORS && stack.parentheses < MAX_OPEN {
+        stack.operators += 1;
+        Ok(Step::Go(Reading::StarDue(stack)))
+    } else {
+        give_up(stack)
+    }
+}
+
+// Another function and its parenthesis.
+fn open_call(mut stack: Stack, opening: Opening) -> Result<Step, Memory>
+    ensures { IfOk result (λ s. move_of s
+        ≡ (if nat_lt stack.operators most_operators && nat_lt stack.parentheses most_open then Go (due (frame.Opened opening ∷ stack_of stack.frames.items) (suc stack.operators) (suc stack.parentheses)) else machine.Refuse)) }
+{
+    if stack.operators < MAX_OPERATORS {
+        stack.operators += 1;
+        open(stack, opening)
+    } else {
+        drop(opening);
+        give_up(stack)
+    }
+}
+
 // A parenthesis behind a word.
-fn call(alloc: Global, mut stack: Stack, name: Name) -> Result<Step, Memory>
+fn call(alloc: Global, stack: Stack, name: Name) -> Result<Step, Memory>
     ensures { IfOk result (λ s. move_of s
         ≡ call_open (callee_of name) (stack_of stack.frames.items) name stack.operators stack.parentheses) }
 {
-    let Some(callee) = callee(name.bytes()) else {
-        return leave(alloc, stack, column(None, name));
-    };
-    match callee {
-        Callee::Count => {
-            if stack.operators < MAX_OPERATORS && stack.parentheses < MAX_OPEN {
-                stack.operators += 1;
-                Ok(Step::Go(Reading::StarDue(stack)))
-            } else {
-                Ok(Step::Refuse)
-            }
+    match callee(name.bytes()) {
+        None => leave(alloc, stack, column(None, name)),
+        Some(Callee::Count) => {
+            drop(name);
+            open_count(stack)
         }
-        Callee::Opens(opening) => {
-            if stack.operators < MAX_OPERATORS && stack.parentheses < MAX_OPEN {
-                stack.operators += 1;
-                stack.parentheses += 1;
-                push(stack, Frame::Opened(opening))
-            } else {
-                drop(opening);
-                Ok(Step::Refuse)
-            }
+        Some(Callee::Opens(opening)) => {
+            drop(name);
+            open_call(stack, opening)
         }
     }
 }
@@ -493,10 +598,13 @@ fn answer(
 {
     match terminal {
         Terminal::Fixed(symbol) => match role_of(*symbol) {
-            Role::Null => {
-                let value = Expr::IsNull(Boxed::new(alloc, last)?, holds);
-                Ok(Step::Go(Reading::After(stack, value, 3)))
-            }
+            Role::Null => match Boxed::new(alloc, last) {
+                Ok(last) => Ok(Step::Go(Reading::After(stack, Expr::IsNull(last, holds), 3))),
+                Err(_) => {
+                    drop(stack);
+                    Err(Memory)
+                },
+            },
             Role::Not if holds => Ok(Step::Go(Reading::NotDue(stack, last))),
             _ => refuse(stack, last),
         },
@@ -515,11 +623,29 @@ fn count(stack: Stack, star: bool, terminal: &Terminal) -> Result<Step, Memory>
         Terminal::Fixed(symbol) => match role_of(*symbol) {
             Role::Operator(Op::Mul) if !star => Ok(Step::Go(Reading::StarRead(stack))),
             Role::Close if star => Ok(Step::Go(Reading::After(stack, Expr::CountAll, TIGHTEST))),
-            _ => Ok(Step::Refuse),
+            _ => give_up(stack),
         },
-        Terminal::Number(_) => Ok(Step::Refuse),
-        Terminal::Literal(_) => Ok(Step::Refuse),
-        Terminal::Word(_) => Ok(Step::Refuse),
+        Terminal::Number(_) => give_up(stack),
+        Terminal::Literal(_) => give_up(stack),
+        Terminal::Word(_) => give_up(stack),
+    }
+}
+
+// A column behind its table and a dot.
+fn qualified(stack: Stack, table: Name, name: &Name) -> Result<Step, Memory>
+    ensures { IfOk result (λ s. move_of s
+        ≡ Go (after (stack_of stack.frames.items) (expr.Column (reference (Some table) name.now)) 7 stack.operators stack.parentheses)) }
+{
+    match name.copy() {
+        Ok(name) => {
+            let value = column(Some(table), name);
+            Ok(Step::Go(Reading::After(stack, value, TIGHTEST)))
+        }
+        Err(memory) => {
+            drop(table);
+            drop(stack);
+            Err(memory)
+        }
     }
 }
 
@@ -530,15 +656,20 @@ fn dotted(stack: Stack, table: Name, terminal: &Terminal) -> Result<Step, Memory
 {
     match terminal {
         Terminal::Fixed(symbol) => match role_of(*symbol) {
-            _ => Ok(Step::Refuse),
+            _ => {
+                drop(table);
+                give_up(stack)
+            }
         },
-        Terminal::Number(_) => Ok(Step::Refuse),
-        Terminal::Literal(_) => Ok(Step::Refuse),
-        Terminal::Word(name) => {
-            let name = name.copy()?;
-            let value = column(Some(table), name);
-            Ok(Step::Go(Reading::After(stack, value, TIGHTEST)))
+        Terminal::Number(_) => {
+            drop(table);
+            give_up(stack)
         }
+        Terminal::Literal(_) => {
+            drop(table);
+            give_up(stack)
+        }
+        Terminal::Word(name) => qualified(stack, table, name),
     }
 }
 

@@ -5,4 +5,3 @@ pub mod Orders
 pub mod Merging
 pub mod Groups
 pub mod Whole
-pub mod Turns

@@ -195,10 +195,6 @@ module _ (all : Columns) (context : Context) (filter : Option Expr) (t : Rows) (
   pub alone_refused : (e : SqlFault) → holds_all all context (option_list filter) row ≡ Err e → remaining all context (option_list filter) t.rows ≡ Err e
   alone_refused e holds = one_refused all context (option_list filter) (IsUnmet all filter) not_met t number row rise there over e holds
 
--- What a call gives, of what is known of its refusal.
-pub refused_as : {X Y : Type 0} (view : X → Y) (r : Result X SqlFault) (e : SqlFault) (whole : Result Y SqlFault) → r ≡ Err e → (e ≢ faults.Memory → whole ≡ Err e) → Computes view r whole
-refused_as view r e whole is stops = rw is stops
-
 -- One row is set, but for want of memory.
 pub set_as : (t : Rows) (number next : ℕ) (values : List Value) (r : Result Updated SqlFault) (whole : Result (List (ℕ × Row) × (ℕ × ℕ)) SqlFault)
     → IfOk r (λ u. u.table ≡ record t { rows = with_row t.rows number (record { values = values }) }) → IfOk r (λ u. (u.next ≡ next) × (u.met ≡ 1)) → IfErr r (λ e. e ≡ faults.Memory)

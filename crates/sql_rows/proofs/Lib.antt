@@ -4,6 +4,5 @@ pub mod Leaving
 pub mod Placing
 pub mod Rights
 pub mod Rising
-pub mod Turns
 pub mod Updating
 pub mod Wide

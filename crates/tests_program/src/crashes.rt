@@ -2,7 +2,7 @@
 // `None` is want of memory.
 use crate::runs::{bench_of, bench_with, done, first_record, numbers, openings};
 use datalinks::Status;
-use dl_base::{Area, List};
+use dl_base::{Area, List, Memory};
 use dl_bench::{Call, MemoryBench, Pick};
 use std::alloc::Global;
 
@@ -120,26 +120,39 @@ const AREAS: [Area; 5] = [
 /// A bench with what stands in another's areas.
 pub fn again(alloc: Global, left: &MemoryBench, fuse: Option<u64>) -> Option<MemoryBench> {
     let mut bench = bench_with(alloc, None, fuse)?;
-    for area in AREAS {
-        bench.put(area, left.area(area)).ok()?;
+    if put_areas(&mut bench, left).is_ok() {
+        Some(bench)
+    } else {
+        drop(bench);
+        None
     }
-    Some(bench)
+}
+
+fn put_areas(bench: &mut MemoryBench, left: &MemoryBench) -> Result<(), Memory> {
+    for area in AREAS {
+        bench.put(area, left.area(area))?;
+    }
+    Ok(())
 }
 
 /// What a look finds, in a run that ended well: what it told.
 fn found(alloc: Global, case: &Case, left: &MemoryBench) -> Option<MemoryBench> {
     let (status, after) = done(alloc, b"run", case.look, again(alloc, left, None)?)?;
     if status == Status::Done {
-        return Some(after);
+        Some(after)
+    } else {
+        drop(after);
+        None
     }
-    None
 }
 
 /// Whether a look finds what some of the steps leave that go with how much was told: what was told never runs ahead, and does not lag by more
 /// than a line.
 fn goes_with(alloc: Global, case: &Case, left: &MemoryBench, told: usize) -> Option<bool> {
     let after = found(alloc, case, left)?;
-    Some(is_as_told(case, after.told(), told))
+    let goes = is_as_told(case, after.told(), told);
+    drop(after);
+    Some(goes)
 }
 
 fn is_as_told(case: &Case, seen: &[u8], told: usize) -> bool {
@@ -179,10 +192,22 @@ fn crashed(
 ) -> Option<(bool, usize, MemoryBench)> {
     let bench = bench_with(alloc, failing, fuse)?;
     let end = done(alloc, b"run", case.script, bench)?;
-    let told = told_front(case, &end)?;
-    let is_done = end.0 == Status::Done;
-    let after = end.1.crash(pick).ok()?;
-    Some((is_done, told, after))
+    match told_front(case, &end) {
+        Some(told) => crashed_end(end, told, pick),
+        None => {
+            drop(end);
+            None
+        }
+    }
+}
+
+fn crashed_end(
+    (status, bench): (Status, MemoryBench),
+    told: usize,
+    pick: Pick,
+) -> Option<(bool, usize, MemoryBench)> {
+    let after = bench.crash(pick).ok()?;
+    Some((status == Status::Done, told, after))
 }
 
 /// Whether a reopening that is stopped by the fuse leaves what goes with how much was told.
@@ -196,7 +221,9 @@ fn reopened(
     let bench = again(alloc, left, Some(fuse))?;
     let (_, stopped) = done(alloc, b"run", b"@ann list\n", bench)?;
     let after = stopped.crash(pick).ok()?;
-    goes_with(alloc, case, &after, told)
+    let goes = goes_with(alloc, case, &after, told);
+    drop(after);
+    goes
 }
 
 fn picks() -> [Pick; 3] {
@@ -223,10 +250,10 @@ fn reopens(alloc: Global, case: &Case, (left, told): (&MemoryBench, usize), firs
 /// stopped itself leaves it; `None` where not.
 fn stops(alloc: Global, case: &Case, fuse: u64, pick: Pick) -> Option<bool> {
     let (is_done, told, after) = crashed(alloc, case, None, Some(fuse), pick)?;
-    if goes_with(alloc, case, &after, told)? && reopens(alloc, case, (&after, told), fuse) {
-        return Some(is_done);
-    }
-    None
+    let goes = goes_with(alloc, case, &after, told) == Some(true)
+        && reopens(alloc, case, (&after, told), fuse);
+    drop(after);
+    if goes { Some(is_done) } else { None }
 }
 
 #[test]
@@ -274,10 +301,9 @@ const CALLS: [(Call, u64); 5] = [
 /// Whether a run of which this call fails ends well, where what is found after a crash goes with what it told; `None` where not.
 fn fails(alloc: Global, case: &Case, call: (Call, u64), pick: Pick) -> Option<bool> {
     let (is_done, told, after) = crashed(alloc, case, Some(call), None, pick)?;
-    if goes_with(alloc, case, &after, told)? {
-        return Some(is_done);
-    }
-    None
+    let goes = goes_with(alloc, case, &after, told) == Some(true);
+    drop(after);
+    if goes { Some(is_done) } else { None }
 }
 
 #[test]
@@ -301,6 +327,7 @@ fn opens(alloc: Global, area: Area, bytes: &[u8]) -> Option<u8> {
     let bench = bench_of(alloc, area, bytes)?;
     let (status, after) = done(alloc, b"run", b"", bench)?;
     let is_kept = after.area(area) == bytes;
+    drop(after);
     match status {
         Status::Done => Some(0),
         Status::NotAStore(at, 0) if at == area && is_kept => Some(5),
@@ -378,7 +405,9 @@ fn too_long(alloc: Global) -> Option<((u8, u64), bool)> {
     let lines = many_lines(alloc)?;
     let bench = bench_of(alloc, Area::Files, first_record())?;
     let (status, after) = done(alloc, b"run", lines.as_slice(), bench)?;
-    Some((numbers(status), after.area(Area::Files) == first_record()))
+    let stay = after.area(Area::Files) == first_record();
+    drop(after);
+    Some((numbers(status), stay))
 }
 
 #[test]

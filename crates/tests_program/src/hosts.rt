@@ -2,7 +2,7 @@
 use crate::fake::{FakeHost, FakeReader, Plan};
 use crate::runs::{first_record, openings, words_of};
 use datalinks::{Status, single};
-use dl_base::Area;
+use dl_base::{Area, Text};
 use dl_host::{FolderBench, InputSource};
 use std::alloc::Global;
 
@@ -70,11 +70,21 @@ fn end_of(status: Status, host: &FakeHost) -> End {
 
 /// A run of the script by this plan. `None` is want of memory.
 fn run(alloc: Global, plan: Plan, fails: bool) -> Option<End> {
-    let host = FakeHost::new(alloc, plan).ok()?;
     let words = words_of(alloc, b"run")?;
+    let end = match FakeHost::new(alloc, plan) {
+        Ok(host) => Some(end_on(alloc, words.as_slice(), host, fails)),
+        Err(_) => None,
+    };
+    drop(words);
+    end
+}
+
+fn end_on(alloc: Global, words: &[Text], host: FakeHost, fails: bool) -> End {
     let mut source = InputSource::new(FakeReader::new(script(), fails));
-    let (status, after) = single(alloc, words.as_slice(), &mut source, FolderBench::new(host));
-    Some(end_of(status, after.host()))
+    let (status, after) = single(alloc, words, &mut source, FolderBench::new(host));
+    let end = end_of(status, after.host());
+    drop(after);
+    end
 }
 
 #[test]

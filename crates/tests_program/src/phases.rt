@@ -107,13 +107,25 @@ fn is_told(told: &[u8], phase: usize, then: &[u8]) -> bool {
     told.starts_with(first) && &told[first.len()..] == then
 }
 
+/// Whether this was told of a step in a phase, and of what is behind it.
+fn is_answered(told: &[u8], phase: usize, step: usize) -> bool {
+    match answers().get(phase) {
+        Some(of_steps) => match of_steps.get(step) {
+            Some(then) => is_told(told, phase, then),
+            None => false,
+        },
+        None => false,
+    }
+}
+
 /// Whether a step in a phase is answered so, in a run that ends well.
 fn answers_so(alloc: Global, phase: usize, step: usize) -> Option<bool> {
     let script = script_of(alloc, phase, step)?;
     let bench = bench_with(alloc, None, None)?;
     let (status, after) = done(alloc, b"run", script.as_slice(), bench)?;
-    let then = answers().get(phase).copied()?.get(step).copied()?;
-    Some(status == Status::Done && is_told(after.told(), phase, then))
+    let is_so = status == Status::Done && is_answered(after.told(), phase, step);
+    drop(after);
+    Some(is_so)
 }
 
 #[test]

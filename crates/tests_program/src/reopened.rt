@@ -274,16 +274,22 @@ fn tokens() -> [[Row; 2]; 4] {
 fn left(alloc: Global, row: &Row, bench: MemoryBench) -> Option<MemoryBench> {
     let (status, after) = done(alloc, row.0, row.1, bench)?;
     if status == Status::Done && after.told() == row.2 {
-        return Some(after);
+        Some(after)
+    } else {
+        drop(after);
+        None
     }
-    None
 }
 
 /// Whether both runs end well and tell their texts. `None` is want of memory, or no for the first.
 fn both_tell(alloc: Global, rows: &[Row; 2]) -> Option<bool> {
     let first = left(alloc, &rows[0], bench_with(alloc, None, None)?)?;
-    let second = left(alloc, &rows[1], again(alloc, &first, None)?);
-    Some(second.is_some())
+    let bench = again(alloc, &first, None);
+    drop(first);
+    let second = left(alloc, &rows[1], bench?);
+    let tells = second.is_some();
+    drop(second);
+    Some(tells)
 }
 
 #[test]

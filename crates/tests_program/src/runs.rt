@@ -80,8 +80,12 @@ pub fn bench_with(
 /// A bench with this in one area, and nothing in the others.
 pub fn bench_of(alloc: Global, area: Area, bytes: &[u8]) -> Option<MemoryBench> {
     let mut bench = bench_with(alloc, None, None)?;
-    bench.put(area, bytes).ok()?;
-    Some(bench)
+    if bench.put(area, bytes).is_ok() {
+        Some(bench)
+    } else {
+        drop(bench);
+        None
+    }
 }
 
 /// How a run ends that is given these words, and what it leaves.
@@ -91,8 +95,17 @@ fn ended(
     source: &mut MemorySource,
     bench: MemoryBench,
 ) -> Option<(Status, MemoryBench)> {
-    let given = words_of(alloc, words)?;
-    Some(single(alloc, given.as_slice(), source, bench))
+    match words_of(alloc, words) {
+        Some(given) => {
+            let end = single(alloc, given.as_slice(), source, bench);
+            drop(given);
+            Some(end)
+        }
+        None => {
+            drop(bench);
+            None
+        }
+    }
 }
 
 /// The same of a script.
@@ -102,8 +115,17 @@ pub fn done(
     script: &[u8],
     bench: MemoryBench,
 ) -> Option<(Status, MemoryBench)> {
-    let mut source = MemorySource::new(alloc, script, None).ok()?;
-    ended(alloc, words, &mut source, bench)
+    match MemorySource::new(alloc, script, None) {
+        Ok(mut source) => {
+            let end = ended(alloc, words, &mut source, bench);
+            drop(source);
+            end
+        }
+        Err(_) => {
+            drop(bench);
+            None
+        }
+    }
 }
 
 /// The exit status, and the number that some have beside it.
@@ -140,7 +162,9 @@ fn run_leaves(
 ) -> Option<((u8, u64), bool)> {
     let bench = bench_of(alloc, Area::Files, before)?;
     let end = done(alloc, words, script, bench)?;
-    Some(leaves(&end, told, after))
+    let left = leaves(&end, told, after);
+    drop(end);
+    Some(left)
 }
 
 #[test]
@@ -181,7 +205,9 @@ fn opened_twice(alloc: Global) -> Option<(bool, bool)> {
     let (_, first) = done(alloc, b"run", b"", bench_with(alloc, None, None)?)?;
     let is_first = has_opened(&first, 0);
     let (_, second) = done(alloc, b"run", b"", first)?;
-    Some((is_first, has_opened(&second, 1)))
+    let is_second = has_opened(&second, 1);
+    drop(second);
+    Some((is_first, is_second))
 }
 
 #[test]
@@ -241,13 +267,12 @@ fn damaged_areas_stay_as_they_are(rt: HostRuntime) {
 
 /// The exit status of a run whose nth take fails, and how many bytes it told and left.
 fn without_source(alloc: Global, script: &[u8], n: u64) -> Option<(u8, usize)> {
-    let bench = bench_with(alloc, None, None)?;
     let mut source = MemorySource::new(alloc, script, Some(n)).ok()?;
+    let bench = bench_with(alloc, None, None)?;
     let (status, after) = ended(alloc, b"run", &mut source, bench)?;
-    Some((
-        status.code(),
-        after.told().len() + after.area(Area::Files).len(),
-    ))
+    let count = after.told().len() + after.area(Area::Files).len();
+    drop(after);
+    Some((status.code(), count))
 }
 
 #[test]
@@ -259,7 +284,8 @@ fn a_source_that_fails(rt: HostRuntime) {
 
 fn without_write(alloc: Global) -> Option<u8> {
     let bench = bench_with(alloc, Some((Call::Write, 2)), None)?;
-    let (status, _) = done(alloc, b"run", first_script(), bench)?;
+    let (status, after) = done(alloc, b"run", first_script(), bench)?;
+    drop(after);
     Some(status.code())
 }
 

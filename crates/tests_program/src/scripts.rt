@@ -350,7 +350,9 @@ fn alone() -> [Row; 1] {
 pub fn tells(alloc: Global, row: &Row) -> Option<bool> {
     let bench = bench_with(alloc, None, None)?;
     let (status, after) = done(alloc, row.0, row.1, bench)?;
-    Some(status == Status::Done && after.told() == row.2)
+    let tells = status == Status::Done && after.told() == row.2;
+    drop(after);
+    Some(tells)
 }
 
 #[test]

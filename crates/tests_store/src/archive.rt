@@ -1,9 +1,12 @@
 // The calls of the archive, once each, with ample memory, over areas whose bytes are written by the format.
 ghost use Rattle.std.specs.Prelude.{◌≡◌, IfSome, is_none};
 ghost use Rattle.std.specs.FinMap as maps;
+ghost use Rattle.dl_bench.specs.Traces.{seen};
+ghost use Rattle.dl_journal.specs.Open.{IsOpen};
+ghost use Rattle.fm_archive.specs.Stock.{extent};
 ghost use Rattle.meaning_settling.specs.Settling.{link_key};
 
-use crate::bench::{name as name_of, path, with_area};
+use crate::bench::{name as name_of, path, refused_place, with_area};
 use dl_base::{
     Area, BeginFault, LinkNo, LinkRow, List, OnUnlink, Options, Owner, ReadBy, Text, WriteBy,
 };
@@ -47,18 +50,19 @@ fn link(tx: u64, k: u32) -> LinkNo
     LinkNo { tx, k }
 }
 
-fn opened(alloc: Global, bytes: &[u8]) -> Option<Archive> {
+fn begun(alloc: Global, bytes: &[u8]) -> Option<Result<Archive, BeginFault>> {
     let mut bench = with_area(alloc, Area::Archive, bytes)?;
-    Archive::begin(alloc, &mut bench, 1_000).ok()
+    let begun = Archive::begin(alloc, &mut bench, 1_000);
+    drop(bench);
+    Some(begun)
 }
 
-// The place of the first record that is refused.
+fn opened(alloc: Global, bytes: &[u8]) -> Option<Archive> {
+    begun(alloc, bytes)?.ok()
+}
+
 fn refused_at(alloc: Global, bytes: &[u8]) -> Option<u64> {
-    let mut bench = with_area(alloc, Area::Archive, bytes)?;
-    match Archive::begin(alloc, &mut bench, 1_000) {
-        Err(BeginFault::NotAJournal(place)) => Some(place),
-        _ => None,
-    }
+    refused_place(begun(alloc, bytes)?)
 }
 
 // The first byte of the owner's name, whether it is writable, the first byte of the digest, and how many bytes there are.
@@ -71,14 +75,31 @@ fn shown(copy: &FileCopy) -> Option<(u8, bool, u8, usize)> {
     ))
 }
 
-fn copy_in(alloc: Global, bytes: &[u8], link: LinkNo) -> Option<(u8, bool, u8, usize)> {
-    let archive = opened(alloc, bytes)?;
+fn copy_of(archive: &Archive, link: LinkNo) -> Option<(u8, bool, u8, usize)> {
     shown(archive.copy(link)?)
 }
 
-fn stored_at(alloc: Global, bytes: &[u8], place: usize) -> Option<LinkNo> {
+fn copy_in(alloc: Global, bytes: &[u8], link: LinkNo) -> Option<(u8, bool, u8, usize)> {
     let archive = opened(alloc, bytes)?;
-    archive.stored().ok()?.at(place).copied()
+    let copy = copy_of(&archive, link);
+    drop(archive);
+    copy
+}
+
+// The number of a link, as two numbers.
+fn numbers(link: &LinkNo) -> (u64, u32) {
+    (link.tx, link.k)
+}
+
+fn stored_of(archive: &Archive, place: usize) -> Option<(u64, u32)> {
+    Some(numbers(archive.stored().ok()?.at(place)?))
+}
+
+fn stored_at(alloc: Global, bytes: &[u8], place: usize) -> Option<(u64, u32)> {
+    let archive = opened(alloc, bytes)?;
+    let stored = stored_of(&archive, place);
+    drop(archive);
+    stored
 }
 
 // Links: one with a copy, one that has none and needs none, one that waits for one, and one with a copy.
@@ -96,8 +117,7 @@ fn row(alloc: Global, link: LinkNo, recovery: bool) -> Option<LinkRow> {
     })
 }
 
-fn four_links(alloc: Global) -> Option<List<LinkRow>> {
-    let mut links = List::empty(alloc);
+fn put_four(alloc: Global, links: &mut List<LinkRow>) -> Option<()> {
     for (link, recovery) in [
         (link(9, 1), true),
         (link(9, 2), false),
@@ -106,17 +126,28 @@ fn four_links(alloc: Global) -> Option<List<LinkRow>> {
     ] {
         links.push(row(alloc, link, recovery)?).ok()?;
     }
-    Some(links)
+    Some(())
 }
 
-fn pending_of(archive: &Archive, links: &List<LinkRow>, place: usize) -> Option<LinkNo> {
-    archive.pending(links).ok()?.at(place).copied()
+fn pending_of(archive: &Archive, links: &List<LinkRow>, place: usize) -> Option<(u64, u32)> {
+    Some(numbers(archive.pending(links).ok()?.at(place)?))
 }
 
-fn pending_at(alloc: Global, place: usize) -> Option<LinkNo> {
+fn pending_among(alloc: Global, links: &List<LinkRow>, place: usize) -> Option<(u64, u32)> {
     let archive = opened(alloc, two_copies())?;
-    let links = four_links(alloc)?;
-    pending_of(&archive, &links, place)
+    let pending = pending_of(&archive, links, place);
+    drop(archive);
+    pending
+}
+
+fn pending_at(alloc: Global, place: usize) -> Option<(u64, u32)> {
+    let mut links = List::empty(alloc);
+    let pending = match put_four(alloc, &mut links) {
+        Some(()) => pending_among(alloc, &links, place),
+        None => None,
+    };
+    drop(links);
+    pending
 }
 
 // A copy of the bytes `abc`.
@@ -135,6 +166,34 @@ fn has_none(archive: &Archive, link: LinkNo) -> bool
 }
 
 // Stores a copy of a link that has none.
+fn store(archive: &mut Archive, bench: &mut MemoryBench, link: LinkNo, made: CopyMade) -> Option<()>
+    requires ready { IsOpen (extent archive.old) (seen bench.old) }
+    requires link { made.link ≡ link }
+{
+    if archive.make_room(1).is_ok() && has_none(archive, link) {
+        archive.store(bench, made).ok()
+    } else {
+        drop(made);
+        None
+    }
+}
+
+fn put_made(alloc: Global, bench: &mut MemoryBench, link: LinkNo, made: CopyMade) -> Option<()>
+    requires link { made.link ≡ link }
+{
+    match Archive::begin(alloc, bench, 1_000) {
+        Ok(mut archive) => {
+            let stored = store(&mut archive, bench, link, made);
+            drop(archive);
+            stored
+        }
+        Err(_) => {
+            drop(made);
+            None
+        }
+    }
+}
+
 fn put(
     alloc: Global,
     bench: &mut MemoryBench,
@@ -142,38 +201,48 @@ fn put(
     name: &[u8],
     writable: bool,
 ) -> Option<()> {
-    let mut archive = Archive::begin(alloc, bench, 1_000).ok()?;
-    archive.make_room(1).ok()?;
-    if !has_none(&archive, link) {
-        return None;
-    }
-    let made = made(alloc, link, name, writable)?;
-    archive.store(bench, made).ok()
+    put_made(alloc, bench, link, made(alloc, link, name, writable)?)
+}
+
+fn put_both(alloc: Global, bench: &mut MemoryBench) -> Option<()> {
+    put(alloc, bench, link(9, 1), b"ann", true)?;
+    put(alloc, bench, link(2, 3), b"bob", false)
 }
 
 // Whether two copies that are stored are their records.
 fn are_stored(alloc: Global) -> Option<bool> {
     let mut bench = with_area(alloc, Area::Archive, b"")?;
-    put(alloc, &mut bench, link(9, 1), b"ann", true)?;
-    put(alloc, &mut bench, link(2, 3), b"bob", false)?;
-    Some(bench.area(Area::Archive) == two_copies())
+    let stored = put_both(alloc, &mut bench).is_some() && bench.area(Area::Archive) == two_copies();
+    drop(bench);
+    Some(stored)
 }
 
 #[test]
 fn copies_of_an_area(rt: HostRuntime) {
     let alloc = rt.alloc();
-    for (link, want) in [
-        (link(9, 1), Some((b'a', true, 0xba, 3))),
-        (link(2, 3), Some((b'b', false, 0xba, 3))),
-        (link(9, 2), None),
+    for (tx, k, want) in [
+        (9, 1, Some((b'a', true, 0xba, 3))),
+        (2, 3, Some((b'b', false, 0xba, 3))),
+        (9, 2, None),
     ] {
-        assert_eq!(rt; copy_in(alloc, two_copies(), link), want);
+        assert_eq!(rt; copy_in(alloc, two_copies(), link(tx, k)), want);
     }
-    assert_eq!(rt; stored_at(alloc, two_copies(), 0), Some(link(2, 3)));
-    assert_eq!(rt; stored_at(alloc, two_copies(), 1), Some(link(9, 1)));
-    assert_eq!(rt; stored_at(alloc, two_copies(), 2), None);
-    assert_eq!(rt; pending_at(alloc, 0), Some(link(1, 1)));
-    assert_eq!(rt; pending_at(alloc, 1), None);
+}
+
+#[test]
+fn links_with_a_copy(rt: HostRuntime) {
+    let alloc = rt.alloc();
+    for (place, want) in [(0, Some((2, 3))), (1, Some((9, 1))), (2, None)] {
+        assert_eq!(rt; stored_at(alloc, two_copies(), place), want);
+    }
+}
+
+#[test]
+fn links_that_wait_for_a_copy(rt: HostRuntime) {
+    let alloc = rt.alloc();
+    for (place, want) in [(0, Some((1, 1))), (1, None)] {
+        assert_eq!(rt; pending_at(alloc, place), want);
+    }
 }
 
 #[test]

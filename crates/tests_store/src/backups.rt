@@ -2,9 +2,9 @@
 ghost use Rattle.std.specs.Prelude.{◌≡◌, IfSome};
 ghost use Rattle.meaning_tables.specs.Tables.{Rise};
 
-use crate::bench::{name, with_area};
+use crate::bench::{name, refused_place, with_area};
 use bk_backup::Backups;
-use dl_base::{Area, BeginFault, Column, ColumnRule, Kind, List, Row, Value};
+use dl_base::{Area, BeginFault, Column, ColumnRule, Kind, List, Name, Row, Value};
 use dl_bench::MemoryBench;
 use sql_table::{RoomyTables, Table, Tables};
 use std::alloc::Global;
@@ -37,18 +37,19 @@ fn one_name_twice() -> &'static [u8] {
       \0\0\0\x01t\0\0\0\0\0\0\0\x02\0\0\0\0\0\0\0\0\0\0\0\x01\0\0\0\0\0"
 }
 
-fn opened(alloc: Global, bytes: &[u8]) -> Option<Backups> {
+fn begun(alloc: Global, bytes: &[u8]) -> Option<Result<Backups, BeginFault>> {
     let mut bench = with_area(alloc, Area::Backups, bytes)?;
-    Backups::begin(alloc, &mut bench, 1_000).ok()
+    let begun = Backups::begin(alloc, &mut bench, 1_000);
+    drop(bench);
+    Some(begun)
 }
 
-// The place of the first record that is refused.
+fn opened(alloc: Global, bytes: &[u8]) -> Option<Backups> {
+    begun(alloc, bytes)?.ok()
+}
+
 fn refused_at(alloc: Global, bytes: &[u8]) -> Option<u64> {
-    let mut bench = with_area(alloc, Area::Backups, bytes)?;
-    match Backups::begin(alloc, &mut bench, 1_000) {
-        Err(BeginFault::NotAJournal(place)) => Some(place),
-        _ => None,
-    }
+    refused_place(begun(alloc, bytes)?)
 }
 
 // The first row of the first table, with its number and the next one.
@@ -61,37 +62,53 @@ fn first_row(tables: &Tables) -> Option<(u64, i64, u64)> {
     }
 }
 
+fn row_of(backups: &Backups, n: u64) -> Option<(u64, i64, u64)> {
+    first_row(backups.image(n)?)
+}
+
 fn row_in(alloc: Global, bytes: &[u8], n: u64) -> Option<(u64, i64, u64)> {
     let backups = opened(alloc, bytes)?;
-    first_row(backups.image(n)?)
+    let row = row_of(&backups, n);
+    drop(backups);
+    row
 }
 
 // How many backups there are; the commit of one, and how many tables it has.
 
 fn count_in(alloc: Global, bytes: &[u8]) -> Option<u64> {
     let backups = opened(alloc, bytes)?;
-    Some(backups.len())
+    let count = backups.len();
+    drop(backups);
+    Some(count)
 }
 
 fn commit_in(alloc: Global, bytes: &[u8], n: u64) -> Option<u64> {
     let backups = opened(alloc, bytes)?;
-    backups.commit_of(n)
+    let commit = backups.commit_of(n);
+    drop(backups);
+    commit
+}
+
+fn tables_of(backups: &Backups, n: u64) -> Option<usize> {
+    Some(backups.image(n)?.len())
 }
 
 fn tables_in(alloc: Global, bytes: &[u8], n: u64) -> Option<usize> {
     let backups = opened(alloc, bytes)?;
-    Some(backups.image(n)?.len())
+    let tables = tables_of(&backups, n);
+    drop(backups);
+    tables
 }
 
 // The table `t` of the first backup.
 
 fn columns(alloc: Global) -> Option<List<Column>> {
-    let mut columns = List::empty(alloc);
     let column = Column {
         name: name(alloc, b"n")?,
         kind: Kind::Int,
         rule: ColumnRule::Plain,
     };
+    let mut columns = List::empty(alloc);
     columns.push(column).ok()?;
     Some(columns)
 }
@@ -116,53 +133,78 @@ fn table(alloc: Global) -> Option<Table> {
     Table::with_rows(2, columns, 5, rows(alloc)?).ok()
 }
 
-fn tables(alloc: Global) -> Option<Tables> {
+fn one_table(alloc: Global, name: Name, table: Table) -> Option<Tables> {
     let mut tables = RoomyTables::of(Tables::empty(alloc));
-    tables.make_room(1).ok()?;
+    if tables.make_room(1).is_ok() {
+        tables.add(name, table);
+        Some(tables.into_tables())
+    } else {
+        drop(table);
+        drop(tables);
+        None
+    }
+}
+
+fn tables(alloc: Global) -> Option<Tables> {
     let name = name(alloc, b"t")?;
-    tables.add(name, table(alloc)?);
-    Some(tables.into_tables())
+    one_table(alloc, name, table(alloc)?)
 }
 
 fn store(alloc: Global, bench: &mut MemoryBench, commit: u64, tables: &Tables) -> Option<u64> {
     let mut backups = Backups::begin(alloc, bench, 1_000).ok()?;
-    backups.store(bench, commit, tables).ok()
+    let number = backups.store(bench, commit, tables).ok();
+    drop(backups);
+    number
+}
+
+fn store_all(alloc: Global, bench: &mut MemoryBench, commit: u64, tables: Tables) -> Option<u64> {
+    let number = store(alloc, bench, commit, &tables);
+    drop(tables);
+    number
 }
 
 fn store_both(alloc: Global, bench: &mut MemoryBench) -> Option<(u64, u64)> {
-    let tables = tables(alloc)?;
-    let first = store(alloc, bench, 3, &tables)?;
-    drop(tables);
-    let second = store(alloc, bench, 5, &Tables::empty(alloc))?;
+    let first = store_all(alloc, bench, 3, tables(alloc)?)?;
+    let second = store_all(alloc, bench, 5, Tables::empty(alloc))?;
     Some((first, second))
 }
 
 // The numbers of two backups, and whether they are their records.
-fn stored(alloc: Global) -> Option<(u64, u64, bool)> {
+fn stored(alloc: Global) -> Option<(Option<(u64, u64)>, bool)> {
     let mut bench = with_area(alloc, Area::Backups, b"")?;
-    let (first, second) = store_both(alloc, &mut bench)?;
-    Some((first, second, bench.area(Area::Backups) == two_backups()))
+    let numbers = store_both(alloc, &mut bench);
+    let are_records = bench.area(Area::Backups) == two_backups();
+    drop(bench);
+    Some((numbers, are_records))
 }
 
 #[test]
 fn backups_of_an_area(rt: HostRuntime) {
     let alloc = rt.alloc();
     assert_eq!(rt; count_in(alloc, two_backups()), Some(2));
-    for (n, commit, tables) in [
-        (0, None, None),
-        (1, Some(3), Some(1)),
-        (2, Some(5), Some(0)),
-        (3, None, None),
-    ] {
-        assert_eq!(rt; commit_in(alloc, two_backups(), n), commit, "backup {n}");
-        assert_eq!(rt; tables_in(alloc, two_backups(), n), tables, "backup {n}");
-    }
     assert_eq!(rt; row_in(alloc, two_backups(), 1), Some((4, 7, 5)));
 }
 
 #[test]
+fn commits_and_tables_of_backups(rt: HostRuntime) {
+    let alloc = rt.alloc();
+    for (n, want) in [
+        (0, (None, None)),
+        (1, (Some(3), Some(1))),
+        (2, (Some(5), Some(0))),
+        (3, (None, None)),
+    ] {
+        let told = (
+            commit_in(alloc, two_backups(), n),
+            tables_in(alloc, two_backups(), n),
+        );
+        assert_eq!(rt; told, want);
+    }
+}
+
+#[test]
 fn backups_are_stored(rt: HostRuntime) {
-    assert_eq!(rt; stored(rt.alloc()), Some((1, 2, true)));
+    assert_eq!(rt; stored(rt.alloc()), Some((Some((1, 2)), true)));
 }
 
 #[test]

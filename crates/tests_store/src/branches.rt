@@ -1,10 +1,13 @@
 // The calls of branches, once each, with ample memory, over areas whose bytes are written by the format.
 ghost use Rattle.std.specs.Prelude.{◌≡◌};
 ghost use Rattle.std.specs.FinMap as maps;
+ghost use Rattle.dl_bench.specs.Traces.{seen};
+ghost use Rattle.dl_journal.specs.Open.{IsOpen};
+ghost use Rattle.fm_branch.specs.Linked.{extent};
 ghost use Rattle.fm_branch.specs.Table.{is_branch_at};
 ghost use Rattle.meaning_areas.specs.Branches.{phase_number};
 
-use crate::bench::with_area;
+use crate::bench::{refused_place, with_area};
 use dl_base::{Area, BeginFault, LinkRow};
 use dl_bench::MemoryBench;
 use dl_codec::BranchPhase;
@@ -124,18 +127,19 @@ fn tx(n: u64) -> u64 {
     4_294_967_296u64.wrapping_add(n)
 }
 
-fn opened(alloc: Global, bytes: &[u8]) -> Option<Branches> {
+fn begun(alloc: Global, bytes: &[u8]) -> Option<Result<Branches, BeginFault>> {
     let mut bench = with_area(alloc, Area::Links, bytes)?;
-    Branches::begin(alloc, &mut bench, 1_000).ok()
+    let begun = Branches::begin(alloc, &mut bench, 1_000);
+    drop(bench);
+    Some(begun)
 }
 
-// The place of the first record that is refused.
+fn opened(alloc: Global, bytes: &[u8]) -> Option<Branches> {
+    begun(alloc, bytes)?.ok()
+}
+
 fn refused_at(alloc: Global, bytes: &[u8]) -> Option<u64> {
-    let mut bench = with_area(alloc, Area::Links, bytes)?;
-    match Branches::begin(alloc, &mut bench, 1_000) {
-        Err(BeginFault::NotAJournal(place)) => Some(place),
-        _ => None,
-    }
+    refused_place(begun(alloc, bytes)?)
 }
 
 fn number_of(phase: BranchPhase) -> u8
@@ -182,30 +186,46 @@ fn shown(row: &LinkRow) -> Option<(u64, u32, u8)> {
 
 fn told_in(alloc: Global, bytes: &[u8], tx: u64) -> Option<(u8, usize, usize, bool)> {
     let branches = opened(alloc, bytes)?;
-    told(&branches, tx)
+    let told = told(&branches, tx);
+    drop(branches);
+    told
 }
 
 fn prepared_in(alloc: Global, bytes: &[u8], place: usize) -> Option<u64> {
     let branches = opened(alloc, bytes)?;
-    prepared_at(&branches, place)
+    let prepared = prepared_at(&branches, place);
+    drop(branches);
+    prepared
 }
 
 fn doubtful_in(alloc: Global, bytes: &[u8], place: usize) -> Option<u64> {
     let branches = opened(alloc, bytes)?;
-    doubtful_at(&branches, place)
+    let doubtful = doubtful_at(&branches, place);
+    drop(branches);
+    doubtful
 }
 
 fn held_in(alloc: Global, bytes: &[u8], place: usize) -> Option<(u64, u32, u8)> {
     let branches = opened(alloc, bytes)?;
-    held_at(&branches, place)
+    let held = held_at(&branches, place);
+    drop(branches);
+    held
 }
 
 // Calls that write, each over branches that are opened for it.
 
-fn announce(alloc: Global, bench: &mut MemoryBench) -> Option<u32> {
-    let mut branches = Branches::begin(alloc, bench, 1_000).ok()?;
+fn announced(branches: &mut Branches, bench: &mut MemoryBench) -> Option<u32>
+    requires ready { IsOpen (extent branches.old) (seen bench.old) }
+{
     branches.announce(bench).ok()?;
     Some(branches.opening())
+}
+
+fn announce(alloc: Global, bench: &mut MemoryBench) -> Option<u32> {
+    let mut branches = Branches::begin(alloc, bench, 1_000).ok()?;
+    let opening = announced(&mut branches, bench);
+    drop(branches);
+    opening
 }
 
 // Whether there is a branch of a transaction, in this phase.
@@ -219,104 +239,150 @@ fn is_at(branches: &Branches, tx: u64, phase: BranchPhase) -> bool
 }
 
 #[tactic(auto, using(crate::proofs::Phases::commit_taken))]
-fn commit(alloc: Global, bench: &mut MemoryBench, tx: u64) -> Option<()> {
-    let mut branches = Branches::begin(alloc, bench, 1_000).ok()?;
-    if !is_at(&branches, tx, BranchPhase::Prepared) {
+fn commit(branches: &mut Branches, bench: &mut MemoryBench, tx: u64) -> Option<()>
+    requires ready { IsOpen (extent branches.old) (seen bench.old) }
+{
+    if !is_at(branches, tx, BranchPhase::Prepared) {
         return None;
     }
     branches.commit(bench, tx).ok()
 }
 
 #[tactic(auto, using(crate::proofs::Phases::done_taken))]
-fn finish(alloc: Global, bench: &mut MemoryBench, tx: u64) -> Option<()> {
-    let mut branches = Branches::begin(alloc, bench, 1_000).ok()?;
-    if !is_at(&branches, tx, BranchPhase::Committed) {
+fn finish(branches: &mut Branches, bench: &mut MemoryBench, tx: u64) -> Option<()>
+    requires ready { IsOpen (extent branches.old) (seen bench.old) }
+{
+    if !is_at(branches, tx, BranchPhase::Committed) {
         return None;
     }
     branches.done(bench, tx).ok()
 }
 
 #[tactic(auto, using(crate::proofs::Phases::abort_taken))]
-fn abort(alloc: Global, bench: &mut MemoryBench, tx: u64) -> Option<()> {
-    let mut branches = Branches::begin(alloc, bench, 1_000).ok()?;
-    if !is_at(&branches, tx, BranchPhase::Prepared) {
+fn abort(branches: &mut Branches, bench: &mut MemoryBench, tx: u64) -> Option<()>
+    requires ready { IsOpen (extent branches.old) (seen bench.old) }
+{
+    if !is_at(branches, tx, BranchPhase::Prepared) {
         return None;
     }
     branches.abort(bench, tx).ok()
 }
 
+// A step of a branch to its end.
+#[derive(Clone, Copy, Drop)]
+enum Step {
+    Commit,
+    Finish,
+    Abort,
+}
+
+fn end(alloc: Global, bench: &mut MemoryBench, tx: u64, step: Step) -> Option<()> {
+    let mut branches = Branches::begin(alloc, bench, 1_000).ok()?;
+    let ended = match step {
+        Step::Commit => commit(&mut branches, bench, tx),
+        Step::Finish => finish(&mut branches, bench, tx),
+        Step::Abort => abort(&mut branches, bench, tx),
+    };
+    drop(branches);
+    ended
+}
+
 // All branches are ended, with the next opening between; its number.
 fn end_all(alloc: Global, bench: &mut MemoryBench) -> Option<u32> {
-    finish(alloc, bench, tx(2))?;
+    end(alloc, bench, tx(2), Step::Finish)?;
     let opening = announce(alloc, bench)?;
-    commit(alloc, bench, tx(4))?;
-    finish(alloc, bench, tx(4))?;
-    abort(alloc, bench, tx(5))?;
+    end(alloc, bench, tx(4), Step::Commit)?;
+    end(alloc, bench, tx(4), Step::Finish)?;
+    end(alloc, bench, tx(5), Step::Abort)?;
     Some(opening)
 }
 
 // A bench on which that was done, if it was the opening 2.
 fn ended(alloc: Global) -> Option<MemoryBench> {
     let mut bench = with_area(alloc, Area::Links, five_branches())?;
-    match end_all(alloc, &mut bench) {
-        Some(2) => Some(bench),
-        _ => None,
+    if end_all(alloc, &mut bench) == Some(2) {
+        Some(bench)
+    } else {
+        drop(bench);
+        None
     }
 }
 
 fn told_at_end(alloc: Global, tx: u64) -> Option<(u8, usize, usize, bool)> {
     let bench = ended(alloc)?;
-    told_in(alloc, bench.area(Area::Links), tx)
+    let told = told_in(alloc, bench.area(Area::Links), tx);
+    drop(bench);
+    told
 }
 
 fn held_at_end(alloc: Global, place: usize) -> Option<(u64, u32, u8)> {
     let bench = ended(alloc)?;
-    held_in(alloc, bench.area(Area::Links), place)
+    let held = held_in(alloc, bench.area(Area::Links), place);
+    drop(bench);
+    held
 }
 
 fn doubtful_at_end(alloc: Global, place: usize) -> Option<u64> {
     let bench = ended(alloc)?;
-    doubtful_in(alloc, bench.area(Area::Links), place)
+    let doubtful = doubtful_in(alloc, bench.area(Area::Links), place);
+    drop(bench);
+    doubtful
 }
 
 #[test]
 fn branches_of_an_area(rt: HostRuntime) {
     let alloc = rt.alloc();
-    for (n, want) in [
-        (1, Some((2, 0, 2, false))),
-        (2, Some((1, 1, 2, false))),
-        (3, Some((3, 1, 0, false))),
-        (4, Some((0, 1, 0, false))),
-        (5, Some((0, 0, 1, false))),
-        (6, None),
+    for (bytes, n, want) in [
+        (five_branches(), 1, Some((2, 0, 2, false))),
+        (five_branches(), 2, Some((1, 1, 2, false))),
+        (five_branches(), 3, Some((3, 1, 0, false))),
+        (five_branches(), 4, Some((0, 1, 0, false))),
+        (five_branches(), 5, Some((0, 0, 1, false))),
+        (five_branches(), 6, None),
+        (filled(), 2, Some((0, 0, 2, true))),
     ] {
-        assert_eq!(rt; told_in(alloc, five_branches(), tx(n)), want, "branch {n}");
+        assert_eq!(rt; told_in(alloc, bytes, tx(n)), want);
     }
-    assert_eq!(rt; told_in(alloc, filled(), tx(2)), Some((0, 0, 2, true)));
 }
 
 #[test]
-fn orders_of_an_area(rt: HostRuntime) {
+fn branches_in_the_order_of_their_prepared(rt: HostRuntime) {
     let alloc = rt.alloc();
-    for (place, n) in [(0, 1), (1, 3), (2, 2), (3, 5), (4, 4)] {
-        assert_eq!(rt;
-            prepared_in(alloc, five_branches(), place),
-            Some(tx(n)),
-            "prepared {place}"
-        );
+    for (place, want) in [
+        (0, Some(tx(1))),
+        (1, Some(tx(3))),
+        (2, Some(tx(2))),
+        (3, Some(tx(5))),
+        (4, Some(tx(4))),
+        (5, None),
+    ] {
+        assert_eq!(rt; prepared_in(alloc, five_branches(), place), want);
     }
-    assert_eq!(rt; prepared_in(alloc, five_branches(), 5), None);
-    for (place, n) in [(0, 2), (1, 4), (2, 5)] {
-        assert_eq!(rt;
-            doubtful_in(alloc, five_branches(), place),
-            Some(tx(n)),
-            "in doubt {place}"
-        );
+}
+
+#[test]
+fn branches_in_doubt(rt: HostRuntime) {
+    let alloc = rt.alloc();
+    for (place, want) in [
+        (0, Some(tx(2))),
+        (1, Some(tx(4))),
+        (2, Some(tx(5))),
+        (3, None),
+    ] {
+        assert_eq!(rt; doubtful_in(alloc, five_branches(), place), want);
     }
-    assert_eq!(rt; doubtful_in(alloc, five_branches(), 3), None);
-    assert_eq!(rt; held_in(alloc, five_branches(), 0), Some((tx(1), 1, b'a')));
-    assert_eq!(rt; held_in(alloc, five_branches(), 1), Some((tx(1), 2, b'b')));
-    assert_eq!(rt; held_in(alloc, five_branches(), 2), None);
+}
+
+#[test]
+fn links_that_are_held(rt: HostRuntime) {
+    let alloc = rt.alloc();
+    for (place, want) in [
+        (0, Some((tx(1), 1, b'a'))),
+        (1, Some((tx(1), 2, b'b'))),
+        (2, None),
+    ] {
+        assert_eq!(rt; held_in(alloc, five_branches(), place), want);
+    }
 }
 
 #[test]
@@ -345,10 +411,19 @@ fn branches_end(rt: HostRuntime) {
         (4, Some((2, 1, 0, false))),
         (5, Some((3, 0, 1, false))),
     ] {
-        assert_eq!(rt; told_at_end(alloc, tx(n)), want, "branch {n}");
+        assert_eq!(rt; told_at_end(alloc, tx(n)), want);
     }
+}
+
+#[test]
+fn links_that_are_held_once_branches_have_ended(rt: HostRuntime) {
+    let alloc = rt.alloc();
     assert_eq!(rt; doubtful_at_end(alloc, 0), None);
-    assert_eq!(rt; held_at_end(alloc, 0), Some((tx(2), 1, b'a')));
-    assert_eq!(rt; held_at_end(alloc, 1), Some((tx(2), 2, b'c')));
-    assert_eq!(rt; held_at_end(alloc, 2), None);
+    for (place, want) in [
+        (0, Some((tx(2), 1, b'a'))),
+        (1, Some((tx(2), 2, b'c'))),
+        (2, None),
+    ] {
+        assert_eq!(rt; held_at_end(alloc, place), want);
+    }
 }

@@ -4,5 +4,5 @@ use Rattle.meaning_sql.specs.Values.{meaning}
 use Rattle.sql_expr.specs.Binding.{Bound}
 use Rattle.sql_expr.proofs.bound.evaluate.Goals as goal
 
-pub returns : goal.returns
-returns c = subst (λ (b : Bound). Computes (λ v. v) c.evaluate.result (meaning b.columns c.args.context.now c.args.group.now b.expr c.args.row.now)) c.in_ok-bound.ensures c.evaluate.ensures
+pub returns-in-Ok : goal.returns-in-Ok
+returns-in-Ok c = subst (λ (b : Bound). Computes (λ v. v) c.evaluate-value.result (meaning b.columns c.args.context.now c.args.group.now b.expr c.args.row.now)) c.in-Ok.ensures c.evaluate-value.ensures

@@ -4,5 +4,5 @@ use Rattle.meaning_sql.specs.Values.{meaning}
 use Rattle.sql_expr.specs.Binding.{Bound}
 use Rattle.sql_expr.proofs.bound.value.Goals as goal
 
-pub returns : goal.returns
-returns c = subst (λ (b : Bound). Computes (λ v. v) c.value.result (meaning b.columns c.args.context.now [] b.expr c.args.row.now)) c.in_ok-bound.ensures c.value.ensures
+pub returns-in-Ok : goal.returns-in-Ok
+returns-in-Ok c = subst (λ (b : Bound). Computes (λ v. v) c.value-value.result (meaning b.columns c.args.context.now [] b.expr c.args.row.now)) c.in-Ok.ensures c.value-value.ensures

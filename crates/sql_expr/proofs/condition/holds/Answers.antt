@@ -4,5 +4,5 @@ use Rattle.meaning_sql.specs.Faults.{Computes}
 use Rattle.sql_expr.specs.Binding.{Bound}
 use Rattle.sql_expr.proofs.condition.holds.Goals as goal
 
-pub returns : goal.returns
-returns c = subst (λ (b : Bound). Computes (λ b. b) c.holds.result (holds_one b.columns c.args.context.now b.expr c.args.row.now)) c.in_ok-bound.ensures c.holds.ensures
+pub returns-in-Ok : goal.returns-in-Ok
+returns-in-Ok c = subst (λ (b : Bound). Computes (λ b. b) c.holds-holds.result (holds_one b.columns c.args.context.now b.expr c.args.row.now)) c.in-Ok.ensures c.holds-holds.ensures

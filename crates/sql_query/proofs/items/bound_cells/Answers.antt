@@ -4,10 +4,10 @@ use Rattle.dl_base.specs.declared.sql_fault.SqlFault.{SqlFault}
 use Rattle.dl_base.specs.declared.value.Row.{Row}
 use Rattle.dl_base.specs.declared.value.Value.{Value}
 use Rattle.meaning_sql.specs.Faults.{◌>>=◌, try_map}
+use Rattle.meaning_sql.proofs.Turns.{refused_as, refused_at, turn_at}
 use Rattle.meaning_statements.specs.Selecting.{row_of_cells}
 use Rattle.sql_expr.specs.Binding.{bound_value}
 use Rattle.sql_query.specs.Items.{bound_row}
-use Rattle.sql_query.proofs.Turns.{refused_as, refused_at, turn_at}
 use Rattle.sql_query.proofs.items.bound_cells.Goals as goal
 
 pub returns-in_err-value : goal.returns-in_err-value

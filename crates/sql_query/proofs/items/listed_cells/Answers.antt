@@ -1,6 +1,6 @@
 use Rattle.meaning_sql.specs.Faults.{try_map}
+use Rattle.meaning_sql.proofs.Turns.{turn_at}
 use Rattle.sql_query.specs.Items.{item_at}
-use Rattle.sql_query.proofs.Turns.{turn_at}
 use Rattle.sql_query.proofs.items.listed_cells.Goals as goal
 
 pub loop-item-preserved : goal.loop-item-preserved

@@ -1,8 +1,8 @@
 use Rattle.std.proofs.Common.{◌≡◌, List, Err, rules}
 use Rattle.meaning_sql.specs.Faults.{try_map}
 use Rattle.meaning_sql.specs.declared.SqlType.{SqlType}
+use Rattle.meaning_sql.proofs.Turns.{refused_as, refused_at, turn_at}
 use Rattle.sql_query.specs.Items.{item_type}
-use Rattle.sql_query.proofs.Turns.{refused_as, refused_at, turn_at}
 use Rattle.sql_query.proofs.items.listed_types.Goals as goal
 
 pub returns-in_err-item_type : goal.returns-in_err-item_type

@@ -1,6 +1,6 @@
 use Rattle.meaning_sql.specs.Faults.{try_map}
+use Rattle.meaning_sql.proofs.Turns.{turn_at}
 use Rattle.sql_query.specs.Items.{key_found}
-use Rattle.sql_query.proofs.Turns.{turn_at}
 use Rattle.sql_query.proofs.keys.order_keys.Goals as goal
 
 pub loop-key-preserved : goal.loop-key-preserved

@@ -1,8 +1,7 @@
 use Rattle.std.proofs.Common.{◌≡◌, Err, rules}
 use Rattle.meaning_sql.specs.Faults.{try_map}
+use Rattle.meaning_sql.proofs.Turns.{refused_as, refused_at, turn_at}
 use Rattle.sql_expr.specs.Binding.{bound_value}
-use Rattle.sql_rows.proofs.Alone.{refused_as}
-use Rattle.sql_rows.proofs.Turns.{refused_at, turn_at}
 use Rattle.sql_rows.proofs.rows.bound_values.Goals as goal
 
 pub returns-in_err-value : goal.returns-in_err-value

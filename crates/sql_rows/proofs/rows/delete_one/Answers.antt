@@ -1,8 +1,9 @@
 use Rattle.std.proofs.Common.{◌≡◌, true, Some, Ok, Err, rules}
 use Rattle.meaning_sql.specs.Conditions.{holds_all}
 use Rattle.meaning_sql.specs.Faults.{option_list}
+use Rattle.meaning_sql.proofs.Turns.{refused_as}
 use Rattle.meaning_tables.specs.Tables.{row_of}
-use Rattle.sql_rows.proofs.Alone.{alone_gone, alone_refused, refused_as}
+use Rattle.sql_rows.proofs.Alone.{alone_gone, alone_refused}
 use Rattle.sql_rows.proofs.rows.delete_one.Goals as goal
 
 pub returns-in_err-filter_holds-in-Some-clause-rows : goal.returns-in_err-filter_holds-in-Some-clause-rows

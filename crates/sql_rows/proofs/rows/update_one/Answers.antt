@@ -1,9 +1,10 @@
 use Rattle.std.proofs.Common.{◌≡◌, true, Some, Ok, Err, map, rules}
 use Rattle.meaning_sql.specs.Conditions.{holds_all}
 use Rattle.meaning_sql.specs.Faults.{option_list}
+use Rattle.meaning_sql.proofs.Turns.{refused_as}
 use Rattle.meaning_statements.specs.Changing.{updated_row}
 use Rattle.meaning_tables.specs.Tables.{row_of}
-use Rattle.sql_rows.proofs.Alone.{alone_set, alone_stopped, alone_stopped_in, refused_as, set_as}
+use Rattle.sql_rows.proofs.Alone.{alone_set, alone_stopped, alone_stopped_in, set_as}
 use Rattle.sql_rows.proofs.rows.update_one.Goals as goal
 
 pub returns-in_err-filter_holds-in-Some-clause-put : goal.returns-in_err-filter_holds-in-Some-clause-put

@@ -2,9 +2,9 @@ use Rattle.std.proofs.Common.{◌≡◌, List, Result, Err, ℕ, map, rules, sub
 use Rattle.dl_base.specs.declared.sql_fault.SqlFault.{SqlFault}
 use Rattle.dl_base.specs.declared.value.Value.{Value}
 use Rattle.meaning_sql.specs.Faults.{Computes}
+use Rattle.meaning_sql.proofs.Turns.{refused_as}
 use Rattle.meaning_statements.specs.Assigning.{stored_row}
 use Rattle.meaning_statements.specs.Changing.{with_cells}
-use Rattle.sql_rows.proofs.Alone.{refused_as}
 use Rattle.sql_rows.proofs.Rights.{updated_from, updated_stops}
 use Rattle.sql_rows.proofs.rows.updated_by.Goals as goal
 

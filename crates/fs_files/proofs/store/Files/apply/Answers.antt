@@ -1,4 +1,4 @@
-use Rattle.std.proofs.Common.{◌≡◌, ◌∷◌, [], ap, is_some, sym, subst, ◌∙◌, Some, None, Result, Err, rules}
+use Rattle.std.proofs.Common.{◌≡◌, ◌∷◌, [], ap, is_some, sym, subst, ◌∙◌, Some, None, Result, Err, rules, arith}
 use Rattle.std.specs.Result.{result_err}
 use Rattle.dl_areas.specs.Batch.{writes_in}
 use Rattle.dl_areas.specs.Writing.{DoesAlone, EndsAlone}
@@ -12,6 +12,7 @@ use Rattle.fs_files.specs.Store.{extent}
 use Rattle.fs_files.proofs.Alone.{does-asked, full-asked, room-asked, device-asked}
 use Rattle.fs_files.proofs.Writing.{ask, asked-images, asked-kept, asked-taken}
 use Rattle.meaning_areas.specs.FilesArea.{writes}
+use Rattle.std.proofs.lemmas.Grind.{common_steps}
 use Rattle.fs_files.proofs.store.Files.apply.Goals as goal
 
 pub batch-requires-clause-taken : goal.batch-requires-clause-taken
@@ -91,3 +92,42 @@ returns-in-Err-clause-device g c is =
     let d = subst (λ (r : Result Unit AppendFault). DoesAlone (extent c.made.new.self) (extent c.batch.new.self) (batch_write c.in_ok-made.made ∷ []) (result_err r) (O c.args.bench.now) (O c.batch.new.bench)) c.in-Err.is c.batch.ensures.does in
     let e : c.from.result ≡ steps.Device = cc in
     device-asked c.args.self.now c.made.new.self c.args.cmd c.in_ok-made.made a c.batch.new.self (O c.args.bench.now) (O c.batch.new.bench) c.requires.ready c.in-Err.fault d (sym c.from.ensures ∙ e)
+
+pub batch-requires-clause-room : goal.batch-requires-clause-room
+batch-requires-clause-room g c = grind (arith, common_steps)
+
+pub returns-in-Ok-clause-limit : goal.returns-in-Ok-clause-limit
+returns-in-Ok-clause-limit g c = grind (arith, common_steps)
+
+pub returns-in-Err-clause-unwritten : goal.returns-in-Err-clause-unwritten
+returns-in-Err-clause-unwritten g c = grind (arith, common_steps)
+
+pub returns-in-Ok-clause-device : goal.returns-in-Ok-clause-device
+returns-in-Ok-clause-device g c = grind (arith, common_steps)
+
+pub returns-in-Ok-clause-memory : goal.returns-in-Ok-clause-memory
+returns-in-Ok-clause-memory g c = grind (arith, common_steps)
+
+pub returns-in-Ok-clause-files : goal.returns-in-Ok-clause-files
+returns-in-Ok-clause-files g c = grind (arith, common_steps)
+
+pub returns-in-Ok-clause-ready : goal.returns-in-Ok-clause-ready
+returns-in-Ok-clause-ready g c = grind (arith, common_steps)
+
+pub returns-in-Err-clause-memory : goal.returns-in-Err-clause-memory
+returns-in-Err-clause-memory g c = grind (arith, common_steps)
+
+pub returns-in-Err-clause-limit : goal.returns-in-Err-clause-limit
+returns-in-Err-clause-limit g c = grind (arith, common_steps)
+
+pub returns-in-Ok-clause-spelled : goal.returns-in-Ok-clause-spelled
+returns-in-Ok-clause-spelled g c = grind (arith, common_steps)
+
+pub returns-in-Err-clause-spelled : goal.returns-in-Err-clause-spelled
+returns-in-Err-clause-spelled g c = grind (arith, common_steps)
+
+pub returns-in-Err-clause-err : goal.returns-in-Err-clause-err
+returns-in-Err-clause-err g c = grind (arith, common_steps)
+
+pub batch-requires-clause-ready : goal.batch-requires-clause-ready
+batch-requires-clause-ready g c = grind (arith, common_steps)

@@ -1,7 +1,8 @@
-use Rattle.std.proofs.Common.{sym, ap, ◌∙◌, is_some}
+use Rattle.std.proofs.Common.{sym, ap, ◌∙◌, is_some, arith}
 use Rattle.std.specs.FinMap as map
 use Rattle.fs_files.specs.Table.{Table}
 use Rattle.fs_files.proofs.Tables.{get-files_of, files_of_removed}
+use Rattle.std.proofs.lemmas.Grind.{common_steps}
 use Rattle.fs_files.proofs.table.FileTable.remove.Goals as goal
 
 pub returns-clause-found : goal.returns-clause-found
@@ -13,3 +14,6 @@ pub returns-clause-removed : goal.returns-clause-removed
 returns-clause-removed c =
     files_of_removed c.self.inside.entries.entries c.swap_remove.new.self.entries c.args.path.now c.swap_remove.ensures.updates.0
     ∙ ap (λ (t : Table). map.remove t.files c.args.path.now) c.self.view_is
+
+pub returns-clause-room : goal.returns-clause-room
+returns-clause-room c = grind (arith, common_steps)

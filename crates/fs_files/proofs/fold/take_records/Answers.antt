@@ -3,7 +3,7 @@ use Rattle.dl_journal.specs.Records.{size}
 use Rattle.meaning_areas.specs.FilesArea.{files_step, files_of}
 use Rattle.meaning_areas.specs.Folds.{folded}
 use Rattle.fs_files.proofs.Folding.{on_no, on_yes, refused, accepted, place_next, place_below}
-use Rattle.fs_files.proofs.fold.fold.Goals as goal
+use Rattle.fs_files.proofs.fold.take_records.Goals as goal
 
 pub returns-then-not-branch-clause-refused : goal.returns-then-not-branch-clause-refused
 returns-then-not-branch-clause-refused c place is =
@@ -18,7 +18,7 @@ returns-then-not-branch-clause-refused c place is =
 pub overflow_add-place-in-loop-body : goal.overflow_add-place-in-loop-body
 overflow_add-place-in-loop-body c =
     let below = place_below c.as_slice-body-items.result.now c.loop-body.body-index c.loop-body.place c.body-item.result c.body-item.result c.loop-body-test.true c.body-item.is c.loop-body.invariant.place in
-    omega (arith, below, c.len.ensures, ap size c.as_slice-body-items.ensures, c.requires)
+    omega (arith, below, c.len.ensures, ap size c.as_slice-body-items.ensures, c.requires.size)
 
 pub loop-body-preserved : goal.loop-body-preserved
 loop-body-preserved c =

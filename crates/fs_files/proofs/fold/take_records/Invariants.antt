@@ -2,7 +2,7 @@ use Rattle.std.proofs.Common.{◌≡◌, drop, take, Ok}
 use Rattle.dl_journal.specs.Records.{size}
 use Rattle.meaning_areas.specs.FilesArea.{files_step, files_of}
 use Rattle.meaning_areas.specs.Folds.{folded}
-use Rattle.fs_files.proofs.fold.fold.Given as goal
+use Rattle.fs_files.proofs.fold.take_records.Given as goal
 
 -- what is left gives of the files so far what all records give; the place is that of the next gate
 abbrev pub invariant-loop-body : goal.invariant-loop-body

@@ -1,0 +1,6 @@
+use Rattle.std.proofs.Common.{arith}
+use Rattle.std.proofs.lemmas.Grind.{common_steps}
+use Rattle.fs_files.proofs.store.Files.written.Goals as goal
+
+pub returns-in_ok-owner-in-Some : goal.returns-in_ok-owner-in-Some
+returns-in_ok-owner-in-Some c = grind (arith, common_steps)

@@ -1,0 +1,15 @@
+use Rattle.std.proofs.Common.{arith}
+use Rattle.std.proofs.lemmas.Grind.{common_steps}
+use Rattle.sql_precedence.proofs.machine.dotted.Goals as goal
+
+pub returns-in-Fixed : goal.returns-in-Fixed
+returns-in-Fixed c = grind (arith, common_steps)
+
+pub returns-in-Word : goal.returns-in-Word
+returns-in-Word c = grind (arith, common_steps)
+
+pub returns-in-Number : goal.returns-in-Number
+returns-in-Number c = grind (arith, common_steps)
+
+pub returns-in-Literal : goal.returns-in-Literal
+returns-in-Literal c = grind (arith, common_steps)
