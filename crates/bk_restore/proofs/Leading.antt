@@ -16,8 +16,9 @@ use Rattle.meaning_merge.proofs.TableByTable.{alone}
 use Rattle.meaning_merge.proofs.TableChanges.{filter-named}
 use Rattle.meaning_tables.specs.Links.{links}
 use Rattle.meaning_tables.specs.Tables.{Rows, Tables, table_of, with_table, without_table}
+use Rattle.bk_losing.proofs.Named.{absent, with-middle}
 use Rattle.bk_restore.specs.Handles.{dropped_handle, is_new_in, kept_handle, new_handle, restore_handles}
-use Rattle.bk_restore.proofs.Named.{AreOut, absent, out-more, out-none, with-middle, without-middle}
+use Rattle.bk_restore.proofs.Named.{AreOut, out-more, out-none, without-middle}
 
 some_same : (x y : Rows) → Some x ≡ Some y → x ≡ y
 some_same x y e = cc

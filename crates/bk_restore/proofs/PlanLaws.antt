@@ -3,6 +3,7 @@ use Rattle.std.proofs.Common.{◌≡◌, ℕ, zero, suc, List, [], not, filter, 
 use Rattle.std.specs.List.{list_any}
 use Rattle.std.specs.Option.{option_map}
 use Rattle.bk_backup.specs.Saved.{Saved}
+use Rattle.bk_losing.proofs.WayLaws.{way-lost}
 use Rattle.bk_restore.specs.Handles.{restore_handles}
 use Rattle.bk_restore.specs.Planning.{HasOwned, IsPlanOf, IsPlanned, IsPlannedTo, tables_at}
 use Rattle.bk_restore.specs.declared.planning.Planned.{Planned}
@@ -10,7 +11,6 @@ use Rattle.bk_restore.specs.declared.planning.Planned.TheVariants as planned
 use Rattle.bk_restore.specs.declared.planning.RestorePlan.{RestorePlan}
 use Rattle.bk_restore.proofs.Leading.{handles-lead, links-lead}
 use Rattle.bk_restore.proofs.Ordering.{handles-last}
-use Rattle.bk_restore.proofs.WayLaws.{way-lost}
 use Rattle.db_changes.specs.Handles.{NewLast}
 use Rattle.db_replay.specs.Changes.{all_at_version, applied}
 use Rattle.db_replay.specs.declared.changes.Change.{Change}

@@ -1,4 +1,3 @@
 pub mod Differing
 pub mod Handles
-pub mod Losing
 pub mod Planning

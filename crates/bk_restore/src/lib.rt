@@ -3,9 +3,7 @@
 #![tactic(auto)]
 
 mod changes;
-mod losing;
 mod planning;
 mod rows;
-mod way;
 
 pub use planning::{Planned, RestorePlan, plan};

@@ -11,9 +11,8 @@ ghost use Rattle.meaning_system.specs.Machine as machine;
 ghost use Rattle.meaning_tables.specs.Links as meant;
 
 use crate::changes::{Making, with_handles};
-use crate::losing::Losing;
-use crate::way::in_the_way;
 use bk_backup::Backups;
+use bk_losing::{Losing, in_the_way};
 use db_replay::Change;
 use db_store::Store;
 use dl_base::{LinkRow, List, Lost, Memory, Refusal, RestoreRefusal, Target};

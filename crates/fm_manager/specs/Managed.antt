@@ -26,7 +26,7 @@ use Rattle.meaning_areas.specs.Copies.{Backup}
 use Rattle.meaning_areas.specs.FilesArea.{writes}
 use Rattle.meaning_areas.specs.Lists.{Folds, Written, folds_on, in_archive, in_backups, in_files, in_links, in_rows}
 use Rattle.meaning_settling.specs.Settling.{Kept}
-use Rattle.meaning_system.specs.Full.{body_of, number_full}
+use Rattle.meaning_areas.specs.Full.{body_of, number_full}
 
 -- The branches and held links, the files, and the archived copies, each with its area.
 pub record Managed : Type 0 where

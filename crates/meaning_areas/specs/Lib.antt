@@ -12,3 +12,4 @@ pub mod Joint
 pub mod Merges
 pub mod Moving
 pub mod Areas
+pub mod Full

@@ -6,5 +6,4 @@ pub mod Machine
 pub mod Writes
 pub mod CoreOf
 pub mod Following
-pub mod Full
 pub mod Recovering

@@ -1,5 +1,5 @@
 // The value of a tree at a row. Cells and constants are looked at where they stand.
-ghost use Rattle.std.specs.Prelude.{◌≡◌, ◌<◌, ◌^◌, [], length, map, pos, IfOk, Ok};
+ghost use Rattle.std.specs.Prelude.{◌≡◌, ◌<◌, ◌^◌, [], length, pos, IfOk, Ok};
 ghost use Rattle.meaning_sql.specs.Conditions as conditions_meant;
 ghost use Rattle.meaning_sql.specs.Datalinks as links_meant;
 ghost use Rattle.meaning_sql.specs.Faults.{Computes, and_then};

@@ -1,5 +1,4 @@
 pub mod Walking
-pub mod Reach
 pub mod Early
 pub mod Passed
 pub mod Keeping

@@ -1,5 +1,4 @@
 pub mod Sources
-pub mod Reach
 pub mod Seeking
 pub mod Keys
 pub mod Grouping

@@ -16,7 +16,7 @@ ghost use Rattle.sql_grammar.specs.declared.frame.Frame.{Frame};
 ghost use Rattle.sql_grammar.specs.declared.frame.Frame.TheVariants as frame;
 ghost use Rattle.sql_grammar.specs.declared.frame.Opening.{Opening};
 ghost use Rattle.sql_grammar.specs.declared.frame.Opening.TheVariants as opening;
-ghost use Rattle.sql_precedence.specs.Views.{stack_of, state_of, move_of, cue_in, asked, counting};
+ghost use Rattle.sql_precedence.specs.Views.{stack_of, state_of, move_of, asked, counting};
 
 use crate::role::{Role, left, level, right, role_of};
 use crate::word::same_bytes;

@@ -1,8 +1,6 @@
 // What a query shows: the columns in order, or its items.
-ghost use Rattle.std.specs.Prelude.{◌≡◌, ◌++◌, IfOk, OnOk, Ok, bytes_eq, length, map};
-ghost use Rattle.std.specs.List.{list_any};
-ghost use Rattle.meaning_sql.specs.Columns.{only_one};
-ghost use Rattle.meaning_sql.specs.Faults.{Computes, typed, try_map, option_list};
+ghost use Rattle.std.specs.Prelude.{◌≡◌, ◌++◌, IfOk, OnOk, Ok, map};
+ghost use Rattle.meaning_sql.specs.Faults.{Computes, typed, try_map};
 ghost use Rattle.meaning_sql.specs.Types as types_meant;
 ghost use Rattle.meaning_statements.specs.Selecting as meant;
 ghost use Rattle.sql_expr.specs.Binding.{bound_in};

@@ -17,8 +17,9 @@ use crate::keys::order_keys;
 use crate::sorting::sorted;
 use dl_base::{Grid, Item, Limit, List, Row, Select, SqlFault};
 use meaning_sql::{Columns, Context};
+use sql_conditions::condition_types;
 use sql_expr::filter_type;
-use sql_join::{Source, are_few, columns_of, combined, condition_types, sources_of};
+use sql_join::{Source, are_few, columns_of, combined, sources_of};
 use sql_table::Tables;
 use std::alloc::Global;
 

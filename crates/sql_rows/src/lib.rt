@@ -1,7 +1,6 @@
 //! The rows that INSERT puts in, and tables after UPDATE and DELETE.
 #![tactic(auto)]
 
-mod cells;
 mod laws;
 mod rows;
 

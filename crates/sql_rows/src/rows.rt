@@ -15,8 +15,8 @@ ghost use Rattle.sql_rows.specs.Beside.{RowsAgreeBeside};
 ghost use Rattle.sql_rows.specs.NewRows.{tuple_rows};
 ghost use Rattle.sql_rows.specs.Touching.{Touches};
 
-use crate::cells::{PutRow, stored_row};
 use dl_base::{Column, Copied, Expr, List, Memory, Name, Row, SqlFault, Value};
+use sql_cells::{PutRow, stored_row};
 use sql_expr::{Bound, Columns, Context, Filter, cell, filter_holds, value};
 use sql_keys::{KeyRows, rows_asked};
 use sql_table::Table;

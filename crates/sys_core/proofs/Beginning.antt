@@ -29,7 +29,7 @@ use Rattle.meaning_history.specs.Sound.{AreSound}
 use Rattle.meaning_settling.specs.Keyed.{Keyed}
 use Rattle.meaning_settling.specs.Settling.{Moved}
 use Rattle.meaning_system.proofs.Stepping.{begun-moved}
-use Rattle.meaning_system.specs.Full.{draw_full, most_numbers}
+use Rattle.meaning_areas.specs.Full.{draw_full, most_numbers}
 use Rattle.meaning_system.specs.Machine.{begin, begun, drawing, new_txn, step}
 use Rattle.meaning_system.specs.State.{State, Txn, number_of, numbered_txn, tables_of, txn_at, txn_of}
 use Rattle.meaning_system.specs.Writes.{writes}

@@ -53,7 +53,7 @@ use Rattle.meaning_settling.specs.Settling.{Moved}
 use Rattle.meaning_system.proofs.Kept.{number-present}
 use Rattle.meaning_system.proofs.Leading.{all_true}
 use Rattle.meaning_system.specs.Following.{AreRestored, IsRestored}
-use Rattle.meaning_system.specs.Full.{draw_full}
+use Rattle.meaning_areas.specs.Full.{draw_full}
 use Rattle.meaning_system.specs.Machine.{drawing, first_session, lost_to, next_commit, restore, restore_at, restore_found, restore_idle, restore_moved, restore_to, restored_state, step, target_tables, unfinished}
 use Rattle.meaning_system.specs.State.{State, Txn, has_links, is_active, number_of, tables_of}
 use Rattle.meaning_system.specs.Writes.{prepared, restore_by, restore_target, restore_writes, when, whole_finish, writes}

@@ -17,7 +17,7 @@ use Rattle.meaning_areas.specs.Commits.{Commits}
 use Rattle.meaning_areas.specs.Lists.{Folds, Written, folds_on, in_rows}
 use Rattle.meaning_areas.specs.Stands.{kept_of}
 use Rattle.meaning_settling.specs.Settling.{Moved}
-use Rattle.meaning_system.specs.Full.{draw_full}
+use Rattle.meaning_areas.specs.Full.{draw_full}
 use Rattle.meaning_system.specs.Machine.{first_session}
 use Rattle.meaning_system.specs.State.{State, has_links}
 use Rattle.meaning_system.specs.Writes.{prepared, whole_finish}

@@ -16,7 +16,7 @@ use Rattle.dl_base.specs.declared.fault.StepFault.TheVariants as faults
 use Rattle.dl_base.specs.declared.step.Step.{Step}
 use Rattle.dl_base.specs.declared.step.Step.TheVariants as steps
 use Rattle.fm_manager.specs.Managed.{as_writes}
-use Rattle.meaning_system.specs.Full.{draw_full}
+use Rattle.meaning_areas.specs.Full.{draw_full}
 use Rattle.meaning_system.specs.Machine.{step}
 use Rattle.meaning_system.specs.State.{State, Txn, txn_of}
 use Rattle.meaning_system.specs.Writes.{writes}

@@ -7,7 +7,7 @@ ghost use Rattle.dl_areas.specs.Lists.{AreReady};
 ghost use Rattle.dl_base.specs.declared.step.Step.TheVariants as steps;
 ghost use Rattle.dl_base.specs.declared.step.Target.{Target as Targets};
 ghost use Rattle.fm_manager.specs.Managed.{AreSpelled};
-ghost use Rattle.meaning_system.specs.Full.{draw_full};
+ghost use Rattle.meaning_areas.specs.Full.{draw_full};
 ghost use Rattle.meaning_system.specs.Machine.{first_session};
 ghost use Rattle.meaning_system.specs.State.{State};
 ghost use Rattle.meaning_system.specs.Writes.{writes};

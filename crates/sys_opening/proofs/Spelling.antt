@@ -15,7 +15,7 @@ use Rattle.fm_manager.specs.Managed.{AreSpelled, IsSpelled, as_write, as_writes}
 use Rattle.meaning_areas.specs.Commits.{commit_of}
 use Rattle.meaning_areas.specs.Lists.{Folds, Written, in_links}
 use Rattle.meaning_opening.proofs.Plain.{none_some}
-use Rattle.meaning_system.specs.Full.{most_numbers, number_full, opening_full}
+use Rattle.meaning_areas.specs.Full.{most_numbers, number_full, opening_full}
 use Rattle.meaning_system.specs.Writes.{when}
 use Rattle.sys_opening.proofs.Records.{counts}
 use Rattle.sys_opening.specs.Halting.{HaveSpellings}

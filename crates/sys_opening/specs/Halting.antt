@@ -7,7 +7,7 @@ use Rattle.dl_base.specs.declared.fault.AppendFault.{AppendFault}
 use Rattle.dl_base.specs.declared.fault.AppendFault.TheVariants as appends
 use Rattle.fm_manager.specs.Managed.{IsSpelled, as_writes}
 use Rattle.meaning_areas.specs.Lists.{Written}
-use Rattle.meaning_system.specs.Full.{number_full}
+use Rattle.meaning_areas.specs.Full.{number_full}
 use Rattle.sys_opening.specs.declared.fault.OpenFault.{OpenFault}
 use Rattle.sys_opening.specs.declared.fault.OpenFault.TheVariants as faults
 

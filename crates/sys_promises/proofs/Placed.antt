@@ -11,7 +11,7 @@ use Rattle.dl_base.specs.declared.area.Area.TheVariants as areas
 use Rattle.dl_journal.proofs.Records.{records-at_rest}
 use Rattle.fm_manager.specs.Managed.{as_write, as_writes}
 use Rattle.meaning_areas.specs.Lists.{Written}
-use Rattle.meaning_system.specs.Full.{body_of}
+use Rattle.meaning_areas.specs.Full.{body_of}
 use Rattle.sys_promises.specs.Recorded.{HasRecords, IsThere}
 
 pub nil : {A : Type 0} (l : List A) → l ++ [] ≡ l

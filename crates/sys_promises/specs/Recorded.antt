@@ -5,7 +5,7 @@ use Rattle.dl_base.specs.Outside.{CrashState}
 use Rattle.dl_journal.specs.Records.{records}
 use Rattle.fm_manager.specs.Managed.{as_writes}
 use Rattle.meaning_areas.specs.Lists.{Written}
-use Rattle.meaning_system.specs.Full.{body_of}
+use Rattle.meaning_areas.specs.Full.{body_of}
 
 -- THE RECORDS ARE THERE, one behind the other: a crash left the areas with these lists and, behind them, with records among which these stand
 pub record HasRecords (lists : Lists) (xs : List Written) (p : CrashState) : Type 0 where

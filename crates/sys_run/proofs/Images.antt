@@ -18,7 +18,7 @@ use Rattle.meaning_areas.specs.Areas.{AreasStand}
 use Rattle.meaning_areas.specs.Lists.{Folds, Written, folds_on}
 use Rattle.meaning_areas.specs.Stands.{IsStand, Stored}
 use Rattle.meaning_history.specs.Sound.{AreSound}
-use Rattle.meaning_system.specs.Full.{draw_full}
+use Rattle.meaning_areas.specs.Full.{draw_full}
 use Rattle.meaning_system.specs.Machine.{step}
 use Rattle.meaning_system.specs.Recovering.{Recovers}
 use Rattle.meaning_system.specs.State.{State, Txn, stored, txn_of}

@@ -19,7 +19,7 @@ use Rattle.dl_base.specs.declared.step.Step.TheVariants as steps
 use Rattle.dl_base.specs.declared.step.Target.{Target}
 use Rattle.fm_branch.proofs.Maps.{missed}
 use Rattle.fm_manager.specs.Managed.{AreSpelled}
-use Rattle.meaning_system.specs.Full.{draw_full}
+use Rattle.meaning_areas.specs.Full.{draw_full}
 use Rattle.meaning_system.specs.Machine.{first_key, first_session, step, target_tables}
 use Rattle.meaning_system.specs.State.{State, Txn, numbered_txn, txn_at, txn_of}
 use Rattle.meaning_system.specs.Writes.{restore_writes, writes}

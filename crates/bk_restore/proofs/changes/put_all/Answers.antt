@@ -1,10 +1,10 @@
 use Rattle.std.proofs.Common.{◌+◌, List, drop, sym, ap, ◌∙◌}
 use Rattle.std.proofs.lemmas.Bool.{and_parts}
 use Rattle.meaning_tables.specs.Tables.{Tables}
+use Rattle.db_replay.proofs.Loops.{next}
 use Rattle.db_replay.specs.Applying.{are_new, is_new}
 use Rattle.db_replay.specs.Changes.{apply, applied}
 use Rattle.db_replay.specs.declared.changes.Change.{Change}
-use Rattle.bk_restore.proofs.LostLaws.{next}
 use Rattle.bk_restore.proofs.changes.put_all.Goals as goal
 
 pub put-requires : goal.put-requires

@@ -2,7 +2,7 @@ use Rattle.std.proofs.Common.{◌+◌, refl, sym, ◌∙◌, ap}
 use Rattle.dl_base.specs.declared.answer.Answer.TheVariants as answers
 use Rattle.dl_base.specs.declared.answer.Refusal.TheVariants as reasons
 use Rattle.dl_base.specs.declared.step.Step.TheVariants as steps
-use Rattle.meaning_system.specs.Full.{draw_full}
+use Rattle.meaning_areas.specs.Full.{draw_full}
 use Rattle.sys_core.proofs.Beginning.{begin-full, begin-memory, begins, begins-shown, in-transaction, left-is, rows-fit}
 use Rattle.sys_core.proofs.Knowing.{none-of, some-of}
 use Rattle.sys_core.proofs.Refused.{leaves-in-memory, leaves-shown}

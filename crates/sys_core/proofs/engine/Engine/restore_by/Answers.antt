@@ -1,5 +1,5 @@
 use Rattle.std.proofs.Common.{◌+◌}
-use Rattle.meaning_system.specs.Full.{draw_full}
+use Rattle.meaning_areas.specs.Full.{draw_full}
 use Rattle.sys_core.proofs.Beginning.{left-is}
 use Rattle.sys_core.proofs.Restored.{never-left, restore-full}
 use Rattle.sys_core.proofs.engine.Engine.restore_by.Goals as goal

@@ -1,6 +1,0 @@
-use Rattle.bk_restore.specs.Losing.{lost_by}
-use Rattle.bk_restore.proofs.Without.{TablesSo}
-use Rattle.bk_restore.proofs.losing.Losing.set_tables.Given as goal
-
-abbrev pub invariant-loop-i : goal.invariant-loop-i
-invariant-loop-i l = TablesSo (lost_by l.self) l.target l.i l.made.tables
