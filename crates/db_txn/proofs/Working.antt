@@ -2,6 +2,7 @@
 use Rattle.std.proofs.Common.{◌≡◌, ◌≤◌, ◌<◌, ◌==◌, ℕ, suc, List, [], ◌∷◌, ◌++◌, Bool, true, false, not, cond, bytes_eq, filter, length, map, Some, Result, Ok, Err, nat_lt, refl, sym, ◌∙◌, ap, subst, arith, length-append}
 use Rattle.std.specs.Cmp.Lexicographic.{pointwise}
 use Rattle.std.specs.List.{IsDistinct, list_all}
+use Rattle.std.proofs.lemmas.Bool.{not-true}
 use Rattle.std.proofs.lemmas.Bool.Decides.{nat_tests}
 use Rattle.dl_base.specs.Limits.{link_numbers, most_tables}
 use Rattle.dl_base.specs.declared.sql_fault.SqlFault.{SqlFault}
@@ -139,15 +140,11 @@ module _ (base before after : Tables) (k next : ℕ) (touched more : Touched) (n
 
 -- THE BEGIN
 
-pub is-false : (b : Bool) → not b ≡ true → b ≡ false
-is-false true e = absurd cc
-is-false false e = refl
-
 none-made : (ts : Tables) → AreCommitted ts → count_made ts ≡ 0
 none-made [] all = refl
 none-made (t ∷ ts) all =
     let two = both (not (t.1.version == 0)) (list_all (λ u. not (u.1.version == 0)) ts) all in
-    counts t ts ∙ ap (λ b. many b (count_made ts)) (is-false (t.1.version == 0) two.0) ∙ none-made ts two.1
+    counts t ts ∙ ap (λ b. many b (count_made ts)) (not-true (t.1.version == 0) two.0) ∙ none-made ts two.1
 
 fresh : (ts : Tables) → RowsFit ts → AreCommitted ts → IsWork ts ts 1 []
 fresh ts rows all = record {

@@ -4,9 +4,7 @@
 
 mod branch;
 mod laws;
-mod moved;
 mod names;
-mod same;
 mod txn;
 mod work;
 

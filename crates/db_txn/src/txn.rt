@@ -11,10 +11,9 @@ ghost use Rattle.sql_run.specs.declared.evaluating.Outcome.TheVariants as outcom
 ghost use Rattle.db_txn.specs.Transaction.{after_evaluation, back_to, begun, made_of, is_plain, standing, undone_to, vacant, with_made};
 
 use crate::branch::has_branch;
-use crate::moved::moved;
-use crate::same::are_same;
 use crate::work::{Before, Work, evaluated};
 use db_changes::Made;
+use db_moved::{are_same, moved_links};
 use dl_base::{LinkRow, List, Memory, Name, Stmt};
 use meaning_sql::Context;
 use sql_run::Outcome;
@@ -207,7 +206,7 @@ impl Txn {
     pub fn moved(&self) -> Result<(List<LinkRow>, List<LinkRow>), Memory>
         ensures { IfOk result (λ made. (made.0 ≡ gives self.now.base self.now.copy) × (made.1 ≡ takes self.now.base self.now.copy)) }
     {
-        moved(self.alloc, &self.base, &self.work.copy, &self.work.touched)
+        moved_links(self.alloc, &self.base, &self.work.copy, &self.work.touched)
     }
 
     /// What the transaction has made of its base, with a branch exactly where it gives or takes a link; from then on it is not

@@ -1,5 +1,5 @@
 -- What pages are seen as: the list of their items, beside how high they stand.
-use Rattle.std.specs.Prelude.{◌≡◌, ℕ, ◌+◌, ◌<◌, Bool, List, [], ◌∷◌, ◌++◌, length}
+use Rattle.std.specs.Prelude.{◌≡◌, ℕ, ◌+◌, ◌<◌, Bool, List, [], ◌∷◌, ◌++◌, length, take}
 use Rattle.dl_pages.specs.declared.tree.Below.{Below}
 use Rattle.dl_pages.specs.declared.tree.Below.TheVariants as below
 
@@ -33,3 +33,7 @@ AreBelow h (p ∷ ps) = (p.1 < h) × AreBelow h ps
 abbrev pub Begins : {T : Type 0} → (T → Bool) → Bool → List T → Type 0
 Begins test v [] = Unit {0}
 Begins test v (x ∷ xs) = test x ≡ v
+
+-- the item at a place among parts is in the part at this place, where it stands at the other
+abbrev pub IsSeat : {T : Type 0} → List (List T × ℕ) → ℕ → ℕ → ℕ → Type 0
+IsSeat ps index at left = (at < length ps) × (length (flatten (take at ps)) + left ≡ index) × (index < length (flatten (take (at + 1) ps)))

@@ -1,14 +1,17 @@
 // Rows of items, as they stand in leaves: what is found in them, and copies of them with an item more, with another or without one.
-// No row is changed once it stands in a leaf.
-ghost use Rattle.std.specs.Prelude.{◌≡◌, [], ◌++◌, ◌<◌, ◌≤◌, length, slice_get, slice_set, remove, IfOk, OnOk};
+// No row is changed once it stands in a leaf, unless no other list shares the leaf.
+ghost use Rattle.std.specs.Prelude.{◌≡◌, [], ◌++◌, ◌<◌, ◌≤◌, length, slice_get, slice_set, remove, IfOk, OnOk, IfSome, IfNone};
 ghost use Rattle.std.specs.List.{insert};
 ghost use Rattle.std.specs.Option.{option_copied, option_to_list};
 ghost use Rattle.dl_pages.specs.Listing.{HasRank};
 ghost use Rattle.dl_pages.specs.Points.{IsPartitioned, IsPartitionPoint};
 
+use crate::step::Step;
 use crate::{Predicate, Ranked};
-use dl_base::{Copied, Memory};
+use dl_base::{Copied, List, Memory};
 use std::alloc::Global;
+use std::mem;
+use std::sync::Arc;
 
 // How many items a leaf holds.
 pub const MOST_ITEMS: usize = 16;
@@ -153,6 +156,37 @@ pub fn without_item<T: Copied + Ranked>(
     let (before, rest) = row.split_at(index);
     let (_, behind) = rest.split_at(1);
     row_of(alloc, before, None, behind)
+}
+
+// Takes an item out of a row.
+fn take_item<T: Drop>(row: &mut List<T>, index: usize)
+    requires { index < length row.old }
+    ensures { row.new ≡ remove row.old index }
+{
+    let mut items = mem::replace(row, List::empty(row.allocator())).into_vec();
+    drop(items.remove(index));
+    drop(mem::replace(row, List::from_vec(items)));
+}
+
+// Takes an item out of a leaf that no other list shares, and makes a further change; the rank of the first item that is left. None
+// where another list shares the leaf, or where the change is not made, and then nothing has changed.
+pub fn take_of_leaf<T: Drop + Ranked, S: Step>(
+    leaf: &mut Arc<List<T>>,
+    index: usize,
+    step: &mut S,
+) -> Option<u64>
+    requires { index < length leaf.old.value }
+    ensures taken { IfSome result (λ rank. (leaf.new.value ≡ remove leaf.old.value index) × HasRank T.rank rank leaf.new.value) }
+    ensures made { IfSome result (λ rank. S.made step.old step.new) }
+    ensures kept { IfNone result (leaf.new.value ≡ leaf.old.value) }
+    ensures unmade { IfNone result (step.new ≡ step.old) }
+{
+    let row = Arc::get_mut(leaf)?;
+    if !step.make() {
+        return None;
+    }
+    take_item(row, index);
+    Some(rank_of(row.as_slice()))
 }
 
 // Two rows of a full one with one more item: half of its items are in the one, and the others in the other.

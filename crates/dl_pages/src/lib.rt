@@ -8,10 +8,11 @@ mod order;
 mod pages;
 mod predicate;
 mod ranks;
+mod step;
 mod tree;
 
 pub use entries::{Probe, least};
-pub use members::{with_member, without_member};
+pub use members::{remove_with_member, with_member, without_member};
 pub use order::Ordered;
 pub use pages::Pages;
 pub use predicate::Predicate;

@@ -1,13 +1,15 @@
 // Sets: items in order, each once, in shared pages.
-ghost use Rattle.std.specs.Prelude.{◌≡◌, IfOk};
+ghost use Rattle.std.specs.Prelude.{◌≡◌, remove, IfOk, OnOk, OnErr};
 ghost use Rattle.std.specs.List.Sorted.{IsStrictlySortedBy};
 ghost use Rattle.std.specs.List.{slice_get};
 ghost use Rattle.dl_pages.specs.Sets.{WithMember, WithoutMember, is_at};
 
-use crate::{Ordered, Pages, Predicate};
+use crate::pages::take_both;
+use crate::{Ordered, Pages, Predicate, Ranked};
 use dl_base::{Copied, Memory};
 use std::alloc::Global;
 use std::cmp::Ordering;
+use std::mem;
 
 // The test of what is below an item.
 #[derive(Drop)]
@@ -77,4 +79,54 @@ pub fn without_member<T: Copied + Ordered>(
         return items.removed(alloc, place);
     }
     items.share()
+}
+
+// Takes an item out of each of two lists: both, or with the error neither.
+fn remove_both<A: Copied + Ranked, B: Copied + Ranked>(
+    alloc: Global,
+    items: &mut Pages<A>,
+    index: usize,
+    others: &mut Pages<B>,
+    place: usize,
+) -> Result<(), Memory>
+    ensures ok { OnOk result ((items.new ≡ remove items.old index) × (others.new ≡ remove others.old place)) }
+    ensures err { OnErr result ((items.new ≡ items.old) × (others.new ≡ others.old)) }
+{
+    if take_both(items, index, others, place) {
+        return Ok(());
+    }
+    let fewer = items.removed(alloc, index)?;
+    match others.removed(alloc, place) {
+        Ok(fewer_others) => {
+            drop(mem::replace(items, fewer));
+            drop(mem::replace(others, fewer_others));
+            Ok(())
+        }
+        Err(Memory) => {
+            drop(fewer);
+            Err(Memory)
+        }
+    }
+}
+
+/// Takes the item at a place from 0 out of a list, and a member out of a set: both, or with the error neither. Nothing changes of a
+/// list with no item there, nor of a set with no member equal to this one. Pages are changed where they stand as with
+/// `Pages::remove`, and where both changes can be made so, they take no memory. The cost is that of a search and of two removals. The
+/// error is want of memory.
+pub fn remove_with_member<A: Copied + Ranked, T: Copied + Ordered>(
+    alloc: Global,
+    items: &mut Pages<A>,
+    index: usize,
+    set: &mut Pages<T>,
+    member: &T,
+) -> Result<(), Memory>
+    ensures items { OnOk result (items.new ≡ remove items.old index) }
+    ensures set { IsStrictlySortedBy T.order set.old → OnOk result (WithoutMember T.order set.old set.new member.now) }
+    ensures err { OnErr result ((items.new ≡ items.old) × (set.new ≡ set.old)) }
+{
+    let place = set.partition_point(&Under { item: member });
+    if stands(set, place, member) {
+        return remove_both(alloc, items, index, set, place);
+    }
+    items.remove(alloc, index)
 }

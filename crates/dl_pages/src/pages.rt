@@ -1,16 +1,19 @@
-// A list in a tree of wide shared pages. No page is ever changed once it is shared: each change makes new pages along one path from
-// the top and shares the others, so a copy costs one count, and want of memory leaves every list as it was.
-ghost use Rattle.std.specs.Prelude.{◌≡◌, ◌↔◌, IsTrue, [], ◌<◌, ◌≤◌, length, slice_get, slice_set, remove, Some, IfOk};
+// A list in a tree of wide shared pages. No page that several lists share is ever changed: a change makes new pages along one path
+// from the top and shares the others, so a copy costs one count, and want of memory leaves every list as it was. Pages that one list
+// has for itself may be changed where they stand.
+ghost use Rattle.std.specs.Prelude.{◌≡◌, ◌↔◌, IsTrue, true, false, [], ◌<◌, ◌≤◌, length, slice_get, slice_set, remove, Some, IfOk, OnOk, OnErr};
 ghost use Rattle.std.specs.List.{insert};
 ghost use Rattle.std.specs.Option.{option_copied};
 ghost use Rattle.dl_pages.specs.Points.{IsPartitioned, IsPartitionPoint};
 
 use crate::leaves::{MOST_ITEMS, roomy};
+use crate::step::{NoStep, Step};
 use crate::tree::{Part, gathered, top_of};
 use crate::{Predicate, Ranked};
 use dl_base::{Copied, List, Memory, Same};
 use std::alloc::Global;
 use std::marker::Model;
+use std::mem;
 
 /// A list whose copies share the pages that they have in common. Contracts see the list.
 ///
@@ -158,6 +161,68 @@ impl<T: Copied + Ranked> Pages<T> {
             top: self.top.removed(alloc, index)?.lowered()?,
         })
     }
+
+    /// Takes the item at a place from 0 out; nothing changes where no item stands there. Where no other list shares a page on the way
+    /// to it, and it is not alone in its leaf, the pages are changed where they stand, and it takes no memory; else the list becomes
+    /// the one that `removed` makes. The cost is at most that of `removed`, and of a walk from the top to a leaf. The error is want
+    /// of memory, and then the list is as it was.
+    pub fn remove(&mut self, alloc: Global, index: usize) -> Result<(), Memory>
+        ensures ok { OnOk result (self.new ≡ remove self.old index) }
+        ensures err { OnErr result (self.new ≡ self.old) }
+    {
+        if take(self, index, &mut NoStep) {
+            return Ok(());
+        }
+        let made = self.removed(alloc, index)?;
+        drop(mem::replace(self, made));
+        Ok(())
+    }
+}
+
+// Takes an item out of a list where it stands, and makes a further change, as with `Part::take`; false also where no item is.
+fn take<T: Drop + Ranked, S: Step>(pages: &mut Pages<T>, index: usize, step: &mut S) -> bool
+    ensures taken { result ≡ true → pages.new ≡ remove pages.old index }
+    ensures kept { result ≡ false → pages.new ≡ pages.old }
+    ensures made { result ≡ true → S.made step.old step.new }
+    ensures unmade { result ≡ false → step.new ≡ step.old }
+{
+    index < pages.len() && pages.top.take(index, step)
+}
+
+// An item to be taken out of a list beside another change.
+#[derive(Drop)]
+struct Taking<T: Ranked> {
+    pages: Pages<T>,
+    index: usize,
+}
+
+impl<T: Drop + Ranked> Step for Taking<T> {
+    ghost use Rattle.std.specs.Prelude.{remove};
+
+    ghost made = { λ old new. new.pages ≡ remove old.pages old.index };
+
+    fn make(&mut self) -> bool {
+        take(&mut self.pages, self.index, &mut NoStep)
+    }
+}
+
+// Takes an item out of each of two lists where they stand; false where that can't be, and then nothing has changed.
+pub fn take_both<A: Drop + Ranked, B: Drop + Ranked>(
+    pages: &mut Pages<A>,
+    index: usize,
+    others: &mut Pages<B>,
+    place: usize,
+) -> bool
+    ensures taken { result ≡ true → (pages.new ≡ remove pages.old index) × (others.new ≡ remove others.old place) }
+    ensures kept { result ≡ false → (pages.new ≡ pages.old) × (others.new ≡ others.old) }
+{
+    let mut taking = Taking {
+        pages: mem::replace(others, Pages::empty()),
+        index: place,
+    };
+    let taken = take(pages, index, &mut taking);
+    drop(mem::replace(others, taking.pages));
+    taken
 }
 
 impl<T: Drop + Ranked> Copied for Pages<T> {

@@ -1,14 +1,16 @@
-// The tree under a list: parts, each a leaf or a page of parts. No part is changed once it stands in a page.
+// The tree under a list: parts, each a leaf or a page of parts. No part is changed once it stands in a page, unless no other list
+// shares the page.
 ghost use Rattle.std.specs.Prelude.{◌≡◌, ℕ, Ok, true, false, [], ◌∷◌, ◌++◌, ◌+◌, ◌<◌, ◌≤◌, length, drop, slice_get, slice_set, remove, IfOk, OnOk, IfSome, IfNone, MatchOption};
 ghost use Rattle.std.specs.List.{insert};
 ghost use Rattle.std.specs.Option.{option_copied};
-ghost use Rattle.dl_pages.specs.Listing.{flatten, AreFilled, AreBelow, Begins};
+ghost use Rattle.dl_pages.specs.Listing.{flatten, AreFilled, AreBelow, Begins, IsSeat};
 ghost use Rattle.dl_pages.specs.Points.{IsPartitioned, IsPartitionPoint};
 
 use crate::leaves::{
-    MOST_ITEMS, first_failing_of, halved, item_at, rank_of, roomy, with_item, with_other,
-    without_item,
+    MOST_ITEMS, first_failing_of, halved, item_at, rank_of, roomy, take_of_leaf, with_item,
+    with_other, without_item,
 };
+use crate::step::Step;
 use crate::{Predicate, Ranked};
 use dl_base::{Copied, List, Memory};
 use std::alloc::Global;
@@ -470,6 +472,71 @@ impl<T: Copied + Ranked> Part<T> {
                 page_of(alloc, spot.before, Made::one(made), spot.behind)
             }
             None => self.share(),
+        }
+    }
+}
+
+// Which part the item at a place is in, and where in that part; None past the last.
+#[tactic(auto, using(crate::proofs::Taking::len_at))]
+fn seat<T: Ranked>(parts: &[Part<T>], index: usize) -> Option<(usize, usize)>
+    ensures { IfSome result (λ s. IsSeat parts.now index s.0 s.1) }
+{
+    let mut left = index;
+    for i in 0..parts.len() {
+        let len = parts[i].len();
+        if left < len {
+            return Some((i, left));
+        }
+        left -= len;
+    }
+    None
+}
+
+impl<T: Drop + Ranked> Part<T> {
+    // Takes an item out where it stands, and makes a further change; false where another list shares a page on the way to the item,
+    // where a leaf would be left without items, or where the change is not made, and then nothing has changed. How high the part
+    // stands stays.
+    #[tactic(auto, using(crate::proofs::Taking::flatten_taken, crate::proofs::Taking::most_taken))]
+    pub fn take<S: Step>(&mut self, index: usize, step: &mut S) -> bool
+        requires { index < length self.old.0 }
+        ensures taken { result ≡ true → self.new.0 ≡ remove self.old.0 index }
+        ensures some { result ≡ true → 1 < length self.old.0 }
+        ensures kept { result ≡ false → self.new ≡ self.old }
+        ensures high { self.new.1 ≡ self.old.1 }
+        ensures made { result ≡ true → S.made step.old step.new }
+        ensures unmade { result ≡ false → step.new ≡ step.old }
+    {
+        if self.len < 2 {
+            return false;
+        }
+        match &mut self.below {
+            Below::Nothing => false,
+            Below::Leaf(leaf) => {
+                let Some(rank) = take_of_leaf(leaf, index, step) else {
+                    return false;
+                };
+                self.rank = rank;
+                self.len -= 1;
+                true
+            }
+            Below::Page(page) => {
+                let Some(page) = Arc::get_mut(page) else {
+                    return false;
+                };
+                let Some((at, left)) = seat(&page.parts[..page.used], index) else {
+                    return false;
+                };
+                let part = &mut page.parts[at];
+                if !part.take(left, step) {
+                    return false;
+                }
+                page.len -= 1;
+                let first = &page.parts[0];
+                page.rank = first.rank;
+                self.rank = page.rank;
+                self.len -= 1;
+                true
+            }
         }
     }
 }

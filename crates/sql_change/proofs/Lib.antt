@@ -4,6 +4,7 @@ pub mod Columns
 pub mod Fitting
 pub mod KeyColumns
 pub mod KeyPlaces
+pub mod Leaving
 pub mod Naming
 pub mod Numbering
 pub mod OneSet

@@ -82,6 +82,15 @@ put_beside numbers name made t (e ∷ es) there agree = λ q before after was is
     (sym (look (pointwise ◌==◌ name e.0) ((e.0, made) ∷ es) (e ∷ with_table es name made) q) ∙ is)
     (λ there_later was_later is_later. put_beside numbers name made t es there_later agree q before after was_later is_later)
 
+-- a table in its own place
+pub put_same : (tables : Tables) (name : List ℕ) (t : Rows) → table_of tables name ≡ Some t → with_table tables name t ≡ tables
+put_same [] name t there = refl
+put_same (e ∷ es) name t there = by (pointwise ◌==◌ name e.0) there (put_same es name t)
+  where
+    by : (b : Bool) → cond b (Some e.1) (table_of es name) ≡ Some t → (table_of es name ≡ Some t → with_table es name t ≡ es) → cond b ((e.0, t) ∷ es) (e ∷ with_table es name t) ≡ e ∷ es
+    by true there later = ap (λ (x : Rows). (e.0, x) ∷ es) (sym (some_same e.1 t there))
+    by false there later = ap (λ (rest : Tables). e ∷ rest) (later there)
+
 -- CREATE TABLE and DROP TABLE
 
 pub added_beside : (tables : Tables) (name : List ℕ) (made : Rows) → AgreeBeside [] tables (tables ++ (name, made) ∷ [])

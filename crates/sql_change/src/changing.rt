@@ -1,5 +1,6 @@
-// A statement as a whole: the new table is built beside the old one, and put in its place as the last step, which takes no
-// memory.
+// A statement as a whole: the new table is built beside the old one, and put in its place as the last step, which takes no memory.
+// Where the condition of a DELETE asks for a key, the row that goes is taken out of the table as the last step, and want of memory
+// leaves the tables as they were.
 ghost use Rattle.std.specs.Prelude.{◌≡◌, ◌≢◌, ◌≤◌, ◌==◌, IfOk, IfErr, OnErr, OnOk, Ok, Err, Some, [], false, true, ℕ, suc, length, map};
 ghost use Rattle.std.specs.Cmp.Lexicographic.{pointwise};
 ghost use Rattle.std.specs.List.{IsDistinct};
@@ -12,6 +13,7 @@ ghost use Rattle.meaning_tables.specs.Fits.{RowsFit, table_fits};
 ghost use Rattle.meaning_tables.specs.Tables.{Rows, table_of, with_table};
 ghost use Rattle.sql_change.specs.Touched.{changes_rows};
 ghost use Rattle.sql_rows.specs.Beside.{AgreeBeside, RowsAgreeBeside};
+ghost use Rattle.sql_rows.specs.Remaining.{remainder_of};
 
 use crate::creating::columns_made;
 use crate::inserting::inserted;
@@ -20,6 +22,7 @@ use dl_base::limits::{MOST_COLUMNS, MOST_TABLES};
 use dl_base::{ColumnDef, Expr, Limit, List, Memory, Name, SqlFault, Stmt};
 use sql_expr::Context;
 use sql_invariants::changes_keep_rows_fitting;
+use sql_rows::{Deleted, Remainder};
 use sql_table::{Table, Tables};
 use std::alloc::Global;
 
@@ -32,7 +35,7 @@ pub struct Changed {
     pub touched: List<u64>,
 }
 
-/// What a statement makes of its table, the next link number, and the number of rows that it put in, met or removed.
+/// What an INSERT or UPDATE makes of its table, the next link number, and the number of rows that it put in or met, and which.
 #[derive(Drop)]
 pub(crate) struct Outcome {
     pub table: Table,
@@ -99,7 +102,7 @@ fn carried_out(
         Stmt::Update(name, sets, filter) => {
             update(alloc, tables, name, sets, filter, context, next_link)
         }
-        Stmt::Delete(name, filter) => delete(alloc, tables, name, filter, context, next_link),
+        Stmt::Delete(name, filter) => delete(alloc, tables, name, filter, context),
         Stmt::Begin | Stmt::Commit | Stmt::Rollback | Stmt::Select(_) => Ok(nothing(alloc)),
     }
 }
@@ -254,6 +257,7 @@ fn update(
     Ok(put_in_place(tables, name, made, next_link))
 }
 
+// It draws no link number.
 #[tactic(auto, using(crate::proofs::Whole::delete_is))]
 fn delete(
     alloc: Global,
@@ -261,24 +265,49 @@ fn delete(
     name: &Name,
     filter: &Option<Expr>,
     context: &Context,
-    next_link: &mut u32,
 ) -> Result<Changed, SqlFault>
-    requires numbers { next_link.old ≤ link_numbers }
-    requires rows { RowsFit tables.old }
-    ensures ok { IfOk result (λ made. meant.delete tables.old name.now filter.now context.entry.now next_link.old ≡ Ok (record { tables = tables.new; next = next_link.new; count = made.count })) }
-    ensures refused { IfErr result (λ e. e ≢ faults.Memory → meant.delete tables.old name.now filter.now context.entry.now next_link.old ≡ Err e) }
-    ensures unchanged { OnErr result ((tables.new ≡ tables.old) × (next_link.new ≡ next_link.old)) }
-    ensures few { next_link.new ≤ link_numbers }
+    requires { RowsFit tables.old }
+    ensures ok { IfOk result (λ made. (k : ℕ) → meant.delete tables.old name.now filter.now context.entry.now k ≡ Ok (record { tables = tables.new; next = k; count = made.count })) }
+    ensures refused { IfErr result (λ e. (k : ℕ) → e ≢ faults.Memory → meant.delete tables.old name.now filter.now context.entry.now k ≡ Err e) }
+    ensures unchanged { OnErr result (tables.new ≡ tables.old) }
     ensures beside { IfOk result (λ made. AgreeBeside made.touched tables.old tables.new) }
     ensures told { IfOk result (λ made. length made.touched ≡ made.count) }
 {
-    let made = deleted(
-        alloc,
-        found(tables, name)?,
-        name,
-        filter,
-        context,
-        *next_link,
-    )?;
-    Ok(put_in_place(tables, name, made, next_link))
+    let made = deleted(alloc, found(tables, name)?, name, filter, context)?;
+    Ok(left_in_place(tables, name, made)?)
+}
+
+// Makes of the table of a name what a DELETE leaves of it, and tells the rows that went. The error is want of memory.
+fn left_in_place(tables: &mut Tables, name: &Name, made: Deleted) -> Result<Changed, Memory>
+    ensures tables { (t : Rows) → table_of tables.old name.now ≡ Some t → OnOk result (tables.new ≡ with_table tables.old name.now (remainder_of t made.left)) }
+    ensures err { OnErr result (tables.new ≡ tables.old) }
+    ensures told { IfOk result (λ told. told ≡ record { count = length made.removed; touched = made.removed }) }
+{
+    let Deleted { left, removed } = made;
+    match put_left(tables, name, left) {
+        Ok(()) => Ok(Changed {
+            count: removed.len() as u64,
+            touched: removed,
+        }),
+        Err(Memory) => {
+            drop(removed);
+            Err(Memory)
+        }
+    }
+}
+
+// Does with the table of a name what is left to do.
+#[tactic(auto, using(crate::proofs::Touched::put_same))]
+fn put_left(tables: &mut Tables, name: &Name, left: Remainder) -> Result<(), Memory>
+    ensures ok { (t : Rows) → table_of tables.old name.now ≡ Some t → OnOk result (tables.new ≡ with_table tables.old name.now (remainder_of t left)) }
+    ensures err { OnErr result (tables.new ≡ tables.old) }
+{
+    match left {
+        Remainder::Another(table) => {
+            drop(tables.put(name, table));
+            Ok(())
+        }
+        Remainder::Without(number) => tables.unset(name, number),
+        Remainder::Same => Ok(()),
+    }
 }

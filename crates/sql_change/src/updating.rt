@@ -1,11 +1,12 @@
-// UPDATE and DELETE: a table after them.
-ghost use Rattle.std.specs.Prelude.{◌≡◌, ◌≤◌, IfOk, Ok, false, length, suc, true};
+// A table after an UPDATE, and what a DELETE leaves of one.
+ghost use Rattle.std.specs.Prelude.{◌≡◌, ◌≤◌, IfOk, Ok, false, length, suc, true, ℕ};
 ghost use Rattle.dl_base.specs.Limits.{link_numbers};
 ghost use Rattle.meaning_sql.specs.Faults.{Computes};
 ghost use Rattle.meaning_statements.specs.Changing.{keys_hold};
 ghost use Rattle.meaning_statements.specs.Sources as sources_meant;
 ghost use Rattle.meaning_tables.specs.Fits.{table_fits};
 ghost use Rattle.sql_rows.specs.Beside.{RowsAgreeBeside};
+ghost use Rattle.sql_rows.specs.Remaining.{remainder_of};
 ghost use Rattle.sql_rows.specs.Touching.{Touches};
 ghost use Rattle.sql_change.specs.Parts as parts;
 
@@ -15,7 +16,7 @@ use crate::places::{check_types, own_columns, set_names, set_places, types_of_se
 use dl_base::{Expr, List, Name, SqlFault};
 use sql_expr::{Columns, Context, filter_type};
 use sql_keys::KeyRows;
-use sql_rows::{Updated, delete_rows, update_rows};
+use sql_rows::{Deleted, Updated, delete_rows, update_rows};
 use sql_table::Table;
 use std::alloc::Global;
 
@@ -157,24 +158,20 @@ fn replaced(alloc: Global, made: Updated, differ: bool) -> Result<Outcome, SqlFa
     })
 }
 
-/// What a DELETE makes of its table.
+/// What a DELETE leaves of its table, and the rows that go. It draws no link number.
 pub(crate) fn deleted(
     alloc: Global,
     table: &Table,
     name: &Name,
     filter: &Option<Expr>,
     context: &Context,
-    k: u32,
-) -> Result<Outcome, SqlFault>
-    requires numbers { k ≤ link_numbers }
-    requires fits { table_fits table.now ≡ true }
-    ensures made { Computes (λ m. (m.table, (m.next, m.count))) result (parts.deleted name.now table.now filter.now context.entry.now k) }
-    ensures few { IfOk result (λ m. m.next ≤ link_numbers) }
-    ensures beside { IfOk result (λ m. RowsAgreeBeside m.touched table.now.rows m.table.rows) }
-    ensures told { IfOk result (λ m. length m.touched ≡ m.count) }
+) -> Result<Deleted, SqlFault>
+    requires { table_fits table.now ≡ true }
+    ensures made { (k : ℕ) → Computes (λ d. (remainder_of table.now d.left, (k, length d.removed))) result (parts.deleted name.now table.now filter.now context.entry.now k) }
+    ensures beside { IfOk result (λ d. RowsAgreeBeside d.removed table.now.rows (remainder_of table.now d.left).rows) }
 {
     let columns = own_columns(alloc, name, table.columns())?;
-    left_over(alloc, &columns, table, filter, context, k)
+    left_over(alloc, &columns, table, filter, context)
 }
 
 #[tactic(auto, unfolding(crate::specs::Parts::left_over))]
@@ -184,22 +181,11 @@ fn left_over(
     table: &Table,
     filter: &Option<Expr>,
     context: &Context,
-    k: u32,
-) -> Result<Outcome, SqlFault>
-    requires numbers { k ≤ link_numbers }
-    requires fits { table_fits table.now ≡ true }
-    ensures made { Computes (λ m. (m.table, (m.next, m.count))) result (parts.left_over columns.now table.now filter.now context.entry.now k) }
-    ensures few { IfOk result (λ m. m.next ≤ link_numbers) }
-    ensures beside { IfOk result (λ m. RowsAgreeBeside m.touched table.now.rows m.table.rows) }
-    ensures told { IfOk result (λ m. length m.touched ≡ m.count) }
+) -> Result<Deleted, SqlFault>
+    requires { table_fits table.now ≡ true }
+    ensures made { (k : ℕ) → Computes (λ d. (remainder_of table.now d.left, (k, length d.removed))) result (parts.left_over columns.now table.now filter.now context.entry.now k) }
+    ensures beside { IfOk result (λ d. RowsAgreeBeside d.removed table.now.rows (remainder_of table.now d.left).rows) }
 {
     filter_type(columns, filter)?;
-    let left = delete_rows(alloc, table, columns, context, filter)?;
-    let count = table.len().saturating_sub(left.table.len()) as u64;
-    Ok(Outcome {
-        table: left.table,
-        next: k,
-        count,
-        touched: left.removed,
-    })
+    delete_rows(alloc, table, columns, context, filter)
 }

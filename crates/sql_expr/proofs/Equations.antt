@@ -17,8 +17,9 @@ use Rattle.sql_expr.specs.declared.tree.Tree.{Tree, fold-roll-Tree}
 use Rattle.sql_expr.specs.declared.tree.Tree as trees
 use Rattle.sql_expr.specs.declared.tree.Tree.TheVariants as v
 use Rattle.sql_expr.specs.declared.tree.Tree.TheOpen as layer
-use Rattle.sql_expr.specs.Trees.{cell_says, said_at, said, unary_value}
-use Rattle.sql_expr.specs.declared.tree.Unary.{Unary}
+use Rattle.sql_expr.specs.Trees.{cell_says, said_at, said}
+use Rattle.sql_operators.specs.Unary.{unary_value}
+use Rattle.sql_operators.specs.declared.unary.Unary.{Unary}
 
 module _ (context : Context) (group : List Row) where
   abbrev says : Tree → Denotation

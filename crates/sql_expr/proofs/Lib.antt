@@ -1,7 +1,6 @@
 pub mod Combining
 pub mod Equations
 pub mod Gathering
-pub mod Numbers
 pub mod Placing
 pub mod Steps
 pub mod Trees

@@ -10,7 +10,7 @@ use Rattle.dl_base.specs.declared.statement.Part.{Part}
 use Rattle.meaning_sql.specs.Columns.{Columns}
 use Rattle.sql_expr.specs.declared.tree.Tree.{Tree}
 use Rattle.sql_expr.specs.declared.tree.Tree as trees
-use Rattle.sql_expr.specs.declared.tree.Unary.TheVariants as unaries
+use Rattle.sql_operators.specs.declared.unary.Unary.TheVariants as unaries
 use Rattle.sql_expr.specs.Trees.{absent, tree_at, tree_of}
 
 module _ (columns : Columns) where

@@ -18,9 +18,10 @@ use Rattle.meaning_sql.specs.Values.{Denotation, denotation_at, denotation, mean
 use Rattle.sql_expr.specs.Binding.{Bound, Filter, bound_in, filter_in}
 use Rattle.sql_expr.specs.declared.tree.Tree.{Tree}
 use Rattle.sql_expr.specs.declared.tree.Tree as trees
-use Rattle.sql_expr.specs.declared.tree.Unary.{Unary}
-use Rattle.sql_expr.specs.declared.tree.Unary.TheVariants as unaries
-use Rattle.sql_expr.specs.Trees.{absent, column_tree, tree_at, tree_of, said, unary_value, is_met}
+use Rattle.sql_operators.specs.declared.unary.Unary.{Unary}
+use Rattle.sql_operators.specs.declared.unary.Unary.TheVariants as unaries
+use Rattle.sql_expr.specs.Trees.{absent, column_tree, tree_at, tree_of, said, is_met}
+use Rattle.sql_operators.specs.Unary.{unary_value}
 use Rattle.sql_expr.proofs.Equations as says
 
 module _ (columns : Columns) (context : Context) (group : List Row) where

@@ -1,6 +1,6 @@
 -- Expressions whose columns are places. Steps of a proof, which nobody need read: what the tree of an expression says (`said`) equals
 -- what the expression says, as in `denotation` of the meaning of expressions (`Values`).
-use Rattle.std.specs.Prelude.{ℕ, Bool, true, not, List, [], length, Option, Some, None, Result, Ok, Err, if◌then◌else◌, map, pos}
+use Rattle.std.specs.Prelude.{ℕ, Bool, true, List, [], length, Option, Some, None, Result, Ok, Err, map, pos}
 use Rattle.dl_base.specs.declared.column.Options.{Options}
 use Rattle.dl_base.specs.declared.sql_fault.SqlFault.{SqlFault}
 use Rattle.dl_base.specs.declared.statement.Expr.{Expr, Expr-F, fold-Expr}
@@ -11,15 +11,15 @@ use Rattle.dl_base.specs.declared.value.Value.TheVariants as values
 use Rattle.meaning_sql.specs.declared.Context.{Context}
 use Rattle.meaning_sql.specs.Columns.{Columns, place_of, kind_at, options_of}
 use Rattle.meaning_sql.specs.Conditions.{is_true}
-use Rattle.meaning_sql.specs.Datalinks.{datalink, accessed}
+use Rattle.meaning_sql.specs.Datalinks.{datalink}
 use Rattle.meaning_sql.specs.Faults.{◌>>=◌}
-use Rattle.meaning_sql.specs.Operators.{truth_of, of_truth, not3, negated, binary, is_null, gathered}
+use Rattle.meaning_sql.specs.Operators.{binary, gathered}
 use Rattle.meaning_sql.specs.Values.{Denotation, plain, cell}
 use Rattle.sql_expr.specs.declared.tree.Tree.{Tree, Tree-F, fold-Tree}
 use Rattle.sql_expr.specs.declared.tree.Tree as trees
 use Rattle.sql_expr.specs.declared.tree.Tree.TheOpen as layer
-use Rattle.sql_expr.specs.declared.tree.Unary.{Unary}
-use Rattle.sql_expr.specs.declared.tree.Unary.TheVariants as unaries
+use Rattle.sql_operators.specs.declared.unary.Unary.TheVariants as unaries
+use Rattle.sql_operators.specs.Unary.{unary_value}
 
 -- the tree of a column whose name means this place, or is refused so
 abbrev pub column_tree : Columns → Result ℕ SqlFault → Tree
@@ -53,13 +53,6 @@ tree_of columns = fold-Expr Tree (tree_at columns)
 -- what the cell at a place says, and the options that its column has
 abbrev pub cell_says : ℕ → Option Options → Denotation
 cell_says i under = record { under = under; at = λ row. Ok (cell row i) }
-
--- what an operator makes of its one operand, which is a cell of a column under these options, if it is one
-abbrev pub unary_value : Context → Option Options → Unary → Value → Result Value SqlFault
-unary_value context under unaries.Not x = Ok (of_truth (not3 (truth_of x)))
-unary_value context under unaries.Minus x = negated x
-unary_value context under (unaries.IsNull is) x = Ok (of_truth (Some (if is then is_null x else not (is_null x))))
-unary_value context under (unaries.Access part) x = Ok (accessed context under part x)
 
 -- one level of a tree, of what its operands say
 abbrev pub said_at : Context → List Row → Tree-F Denotation → Denotation

@@ -6,13 +6,13 @@ ghost use Rattle.meaning_sql.specs.Types.{type_of};
 ghost use Rattle.meaning_sql.specs.Types as meaning;
 ghost use Rattle.sql_expr.specs.Operands.{RefusesAs, suits};
 
-use crate::columns::{kind_at, place_of};
 use crate::types::{
     Operand, aggregate_type, binary_type, is_text, kind_type, suits, takes_aggregate, takes_column,
     typed,
 };
 use dl_base::{Expr, Fold, Op, Ref, SqlFault};
 use meaning_sql::{AggregateScope, Columns, SqlType};
+use sql_operators::{kind_at, place_of};
 
 /// The type of an expression where columns and aggregates may stand. The first breach is the answer, operands from left to right
 /// and each before its operator: `NoColumn`, `Ambiguous` or `TypeFault`, or `Memory` in the place of these.

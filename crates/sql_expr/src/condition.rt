@@ -1,12 +1,11 @@
 // The conditions of ON and WHERE: their types, and whether they are true of a row.
-ghost use Rattle.std.specs.Prelude.{◌≡◌};
 ghost use Rattle.meaning_sql.specs.Faults.{Computes, try_map, option_list};
 ghost use Rattle.meaning_sql.specs.Conditions as meant;
 
 use crate::bound::Bound;
 use crate::checking::check_in;
 use crate::types::is_truth;
-use dl_base::{Expr, Memory, Row, SqlFault, Value};
+use dl_base::{Expr, Memory, Row, SqlFault};
 use meaning_sql::{AggregateScope, Columns, Context, SqlType};
 use std::alloc::Global;
 
@@ -67,17 +66,5 @@ pub fn filter_holds(
     match filter {
         Some(condition) => holds(alloc, condition, row, columns, context),
         None => Ok(true),
-    }
-}
-
-#[tactic(auto, unfolding(meaning_sql::specs::Operators::truth_of))]
-pub(crate) fn is_true(x: &Value) -> bool
-    ensures { result ≡ meant.is_true x.now }
-{
-    match x {
-        Value::Int(z) => *z != 0,
-        Value::Null => false,
-        Value::Text(_) => false,
-        Value::Link(_) => false,
     }
 }

@@ -1,24 +1,24 @@
 // The value of a tree at a row. Cells and constants are looked at where they stand.
-ghost use Rattle.std.specs.Prelude.{◌≡◌, ◌<◌, ◌^◌, [], length, pos, IfOk, Ok};
+ghost use Rattle.std.specs.Prelude.{◌≡◌, [], IfOk, Ok};
 ghost use Rattle.meaning_sql.specs.Conditions as conditions_meant;
 ghost use Rattle.meaning_sql.specs.Datalinks as links_meant;
 ghost use Rattle.meaning_sql.specs.Faults.{Computes, and_then};
 ghost use Rattle.meaning_sql.specs.Operators as meant;
 ghost use Rattle.meaning_sql.specs.Values.{cell};
 ghost use Rattle.sql_expr.specs.Combining.{combined_row};
-ghost use Rattle.sql_expr.specs.Seeing.{FollowsSeen, GathersSeen, IsTold, seen};
-ghost use Rattle.sql_expr.specs.Trees.{said, said_value, unary_value};
+ghost use Rattle.sql_expr.specs.Seeing.{FollowsSeen, GathersSeen, IsTold};
+ghost use Rattle.sql_expr.specs.Trees.{said, said_value};
+ghost use Rattle.sql_operators.specs.Seeing.{seen};
+ghost use Rattle.sql_operators.specs.Unary.{unary_value};
 
-use crate::aggregate::gather;
 use crate::cells::{Cells, cell_at};
-use crate::condition::is_true;
-use crate::datalinks::{accessed, datalink};
-use crate::operator::{Ask, binary, left_side, negated};
-use crate::seen::{Seen, made};
-use crate::tree::{Tree, Unary};
-use crate::truth::{is_null, not3, of_truth, truth_of};
+use crate::tree::Tree;
 use dl_base::{Copied, Fold, Memory, Op, Options, Row, SqlFault, Value};
 use meaning_sql::Context;
+use sql_operators::{
+    Ask, Seen, Unary, binary, counted, datalink, gather, is_true, left_side, made, of_no_rows,
+    unary_value,
+};
 use std::alloc::Global;
 
 /// The value at a place from 0 of a row; NULL past its end.
@@ -210,24 +210,6 @@ fn unary<'a>(
     }
 }
 
-// What an operator makes of its one operand, which is a cell of a column under these options, if it is one.
-fn unary_value(
-    alloc: Global,
-    context: &Context,
-    op: Unary,
-    under: Option<Options>,
-    x: &Value,
-) -> Result<Value, SqlFault>
-    ensures { Computes (λ v. v) result (unary_value context.entry.now under op x.now) }
-{
-    match op {
-        Unary::Not => Ok(of_truth(not3(truth_of(x)))),
-        Unary::Minus => negated(x),
-        Unary::IsNull(is) => Ok(of_truth(Some(if is { is_null(x) } else { !is_null(x) }))),
-        Unary::Access(part) => accessed(alloc, context, under, part, x),
-    }
-}
-
 fn after<'a>(op: Op, x: Seen<'a>, y: Result<Seen<'a>, SqlFault>) -> Result<Seen<'a>, SqlFault>
     ensures { FollowsSeen y.entry (λ b. meant.binary op (seen x.entry) (Ok b)) result }
 {
@@ -243,20 +225,6 @@ fn after<'a>(op: Op, x: Seen<'a>, y: Result<Seen<'a>, SqlFault>) -> Result<Seen<
             Err(fault)
         }
     }
-}
-
-fn counted<'a>(group: &[Row]) -> Seen<'a>
-    requires { length group.now < 2 ^ 63 }
-    ensures { seen result ≡ Value.Int (pos (length group.now)) }
-{
-    Seen::Made(Value::Int(group.len() as i64))
-}
-
-// The aggregate of no rows.
-fn of_no_rows() -> Value
-    ensures { result ≡ Value.Null }
-{
-    Value::Null
 }
 
 fn next_of(fold: Fold, x: Value, y: Result<Seen, SqlFault>) -> Result<Value, SqlFault>

@@ -4,9 +4,9 @@ ghost use Rattle.meaning_sql.specs.Columns as columns_meant;
 ghost use Rattle.sql_expr.specs.Trees.{column_tree, tree_of};
 ghost use Rattle.sql_expr.specs.declared.tree.Tree as trees;
 
-use crate::columns::{kind_at, options_of, place_of};
-use dl_base::{Boxed, Copied, Expr, Fold, Memory, Op, Options, Part, Ref, SqlFault, Text, Value};
+use dl_base::{Boxed, Copied, Expr, Fold, Memory, Op, Options, Ref, SqlFault, Text, Value};
 use meaning_sql::Columns;
+use sql_operators::{Unary, kind_at, options_of, place_of};
 use std::alloc::Global;
 
 /// An expression whose columns are places.
@@ -26,17 +26,6 @@ pub enum Tree {
     Aggregate(Fold, Boxed<Tree>),
     /// DLVALUE of a location, a link type and a comment; one that is left out is NULL.
     Dlvalue(Boxed<Tree>, Boxed<Tree>, Boxed<Tree>),
-}
-
-/// An operator of one operand.
-#[derive(Clone, Copy)]
-pub enum Unary {
-    Not,
-    Minus,
-    /// IS NULL where it holds true, IS NOT NULL where it holds false.
-    IsNull(bool),
-    /// An accessor of a datalink.
-    Access(Part),
 }
 
 /// The tree of an expression in these columns.

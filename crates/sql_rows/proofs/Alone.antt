@@ -17,7 +17,9 @@ use Rattle.meaning_tables.specs.Tables.{Rows, Rise, row_of, with_row, without_ro
 use Rattle.sql_keys.specs.Finding.{IsUnmet, PassesOver}
 use Rattle.sql_keys.specs.declared.finding.KeyRows.{KeyRows}
 use Rattle.sql_keys.specs.declared.finding.KeyRows.TheVariants as key_rows
+use Rattle.sql_rows.specs.Remaining.{remainder_of}
 use Rattle.sql_rows.specs.declared.rows.Deleted.{Deleted}
+use Rattle.sql_rows.specs.declared.rows.Remainder.TheVariants as remainders
 use Rattle.sql_rows.specs.declared.rows.Updated.{Updated}
 use Rattle.sql_rows.proofs.Leaving.{behind_kept}
 use Rattle.sql_rows.proofs.Placing.{put_in, taken_out}
@@ -204,8 +206,8 @@ set_as t number next values (Err e) whole set are memory is = λ other. absurd (
 
 -- No row is met.
 module _ (all : Columns) (context : Context) (filter : Option Expr) (t : Rows) (over : PassesOver (IsUnmet all filter) t.rows key_rows.Nothing) where
-  pub nothing_left : (d : Deleted) → d ≡ record { table = t; removed = [] } → remaining all context (option_list filter) t.rows ≡ Ok d.table.rows
-  nothing_left d is = none_gone all context (option_list filter) (IsUnmet all filter) (λ r h. (h context).1) t.rows over ∙ ap (λ (x : Deleted). Ok x.table.rows) (sym is)
+  pub nothing_left : (d : Deleted) → d ≡ record { left = remainders.Same; removed = [] } → remaining all context (option_list filter) t.rows ≡ Ok (remainder_of t d.left).rows
+  nothing_left d is = none_gone all context (option_list filter) (IsUnmet all filter) (λ r h. (h context).1) t.rows over ∙ ap (λ (x : Deleted). Ok (remainder_of t x.left).rows) (sym is)
 
   pub nothing_updated : (places : List ℕ) (rights : List Expr) (k : ℕ) (u : Updated) → u ≡ record { table = t; next = k; met = 0; touched = key_rows.Nothing; numbers = [] } → updated_rows all context t.columns (option_list filter) places rights k t.rows ≡ Ok (u.table.rows, (u.next, u.met))
   nothing_updated places rights k u is =

@@ -1,3 +1,4 @@
 pub mod Beside
 pub mod NewRows
+pub mod Remaining
 pub mod Touching

@@ -1,5 +1,5 @@
-// The rows that INSERT puts in, and tables after UPDATE and DELETE.
-ghost use Rattle.std.specs.Prelude.{◌≡◌, ◌≤◌, ◌+◌, ◌∷◌, All, IfErr, IfOk, Ok, OnOk, [], is_some, length, map, suc, true};
+// The rows that INSERT puts in, tables after UPDATE, and what DELETE leaves of tables.
+ghost use Rattle.std.specs.Prelude.{◌≡◌, ◌≤◌, ◌+◌, ◌∷◌, All, IfErr, IfOk, Ok, OnOk, [], length, map, suc, true};
 ghost use Rattle.dl_base.specs.Limits.{link_numbers};
 ghost use Rattle.dl_base.specs.declared.sql_fault.SqlFault.TheVariants as faults;
 ghost use Rattle.meaning_sql.specs.Columns.{Columns as ColumnsOf};
@@ -7,12 +7,14 @@ ghost use Rattle.meaning_sql.specs.Faults.{Computes, try_map, option_list};
 ghost use Rattle.meaning_sql.specs.Values.{meaning};
 ghost use Rattle.meaning_statements.specs.Changing as meant;
 ghost use Rattle.meaning_tables.specs.Fits.{table_fits};
-ghost use Rattle.meaning_tables.specs.Tables.{Rise, row_of, with_row, without_row};
+ghost use Rattle.meaning_tables.specs.Tables.{Rise, with_row};
 ghost use Rattle.sql_expr.specs.Binding.{AreIn, bound_in, bound_value};
 ghost use Rattle.sql_keys.specs.Finding.{IsUnmet, PassesOver};
 ghost use Rattle.sql_keys.specs.declared.finding.KeyRows.TheVariants as key_rows;
 ghost use Rattle.sql_rows.specs.Beside.{RowsAgreeBeside};
 ghost use Rattle.sql_rows.specs.NewRows.{tuple_rows};
+ghost use Rattle.sql_rows.specs.Remaining.{remainder_of};
+ghost use Rattle.sql_rows.specs.declared.rows.Remainder.TheVariants as remainders;
 ghost use Rattle.sql_rows.specs.Touching.{Touches};
 
 use dl_base::{Column, Copied, Expr, List, Memory, Name, Row, SqlFault, Value};
@@ -46,11 +48,22 @@ pub struct Updated {
     pub numbers: List<u64>,
 }
 
-/// A table after a DELETE.
+/// What a DELETE leaves of a table: what is to be done with the table, which stays as it was until then.
+#[derive(Drop)]
+pub enum Remainder {
+    /// Another table stands for it.
+    Another(Table),
+    /// The row of this number goes.
+    Without(u64),
+    /// All rows stay.
+    Same,
+}
+
+/// What a DELETE makes of a table.
 #[derive(Drop)]
 pub struct Deleted {
-    /// The table with the rows that were not met.
-    pub table: Table,
+    /// What is left: the rows that were not met.
+    pub left: Remainder,
     /// The numbers of the rows that were met.
     pub removed: List<u64>,
 }
@@ -152,8 +165,8 @@ pub fn tuple_rows(
     Ok(NewRows { rows, next: k })
 }
 
-/// What a DELETE leaves of a table: a copy, which shares what stays with the table, and the numbers of the rows that went. Where the
-/// condition asks for a key, the row that has it is looked at alone.
+/// What a DELETE leaves of a table, and the numbers of the rows that go. Where the condition asks for a key, the row that has it is
+/// looked at alone, and no copy is made; else what is left is a copy, which shares what stays with the table.
 pub fn delete_rows(
     alloc: Global,
     table: &Table,
@@ -162,15 +175,15 @@ pub fn delete_rows(
     filter: &Option<Expr>,
 ) -> Result<Deleted, SqlFault>
     requires { table_fits table.now ≡ true }
-    ensures rows { Computes (λ d. d.table.rows) result (meant.remaining columns.now context.entry.now (option_list filter.now) table.now.rows) }
-    ensures others { IfOk result (λ d. d.table ≡ record table.now { rows = d.table.rows }) }
-    ensures beside { IfOk result (λ d. RowsAgreeBeside d.removed table.now.rows d.table.rows) }
-    ensures told { IfOk result (λ d. length d.table.rows + length d.removed ≡ length table.now.rows) }
+    ensures rows { Computes (λ d. (remainder_of table.now d.left).rows) result (meant.remaining columns.now context.entry.now (option_list filter.now) table.now.rows) }
+    ensures others { IfOk result (λ d. remainder_of table.now d.left ≡ record table.now { rows = (remainder_of table.now d.left).rows }) }
+    ensures beside { IfOk result (λ d. RowsAgreeBeside d.removed table.now.rows (remainder_of table.now d.left).rows) }
+    ensures told { IfOk result (λ d. length (remainder_of table.now d.left).rows + length d.removed ≡ length table.now.rows) }
 {
     match rows_asked(table, columns, filter)? {
         KeyRows::All => delete_each(alloc, table, columns, context, filter),
         KeyRows::One(number) => delete_one(alloc, table, columns, context, filter, number),
-        KeyRows::Nothing => Ok(untouched(alloc, table)?),
+        KeyRows::Nothing => Ok(untouched(alloc)),
     }
 }
 
@@ -182,10 +195,10 @@ fn delete_each(
     context: &Context,
     filter: &Option<Expr>,
 ) -> Result<Deleted, SqlFault>
-    ensures rows { Computes (λ d. d.table.rows) result (meant.remaining columns.now context.entry.now (option_list filter.now) table.now.rows) }
-    ensures others { IfOk result (λ d. d.table ≡ record table.now { rows = d.table.rows }) }
-    ensures beside { IfOk result (λ d. RowsAgreeBeside d.removed table.now.rows d.table.rows) }
-    ensures told { IfOk result (λ d. length d.table.rows + length d.removed ≡ length table.now.rows) }
+    ensures rows { Computes (λ d. (remainder_of table.now d.left).rows) result (meant.remaining columns.now context.entry.now (option_list filter.now) table.now.rows) }
+    ensures others { IfOk result (λ d. remainder_of table.now d.left ≡ record table.now { rows = (remainder_of table.now d.left).rows }) }
+    ensures beside { IfOk result (λ d. RowsAgreeBeside d.removed table.now.rows (remainder_of table.now d.left).rows) }
+    ensures told { IfOk result (λ d. length (remainder_of table.now d.left).rows + length d.removed ≡ length table.now.rows) }
 {
     let bound = Filter::new(alloc, filter, columns)?;
     let made = delete_met(alloc, table, context, &bound);
@@ -200,16 +213,16 @@ fn delete_met(
     context: &Context,
     filter: &Filter,
 ) -> Result<Deleted, SqlFault>
-    ensures rows { Computes (λ d. d.table.rows) result (meant.remaining filter.now.columns context.entry.now (option_list filter.now.condition) table.now.rows) }
-    ensures others { IfOk result (λ d. d.table ≡ record table.now { rows = d.table.rows }) }
-    ensures beside { IfOk result (λ d. RowsAgreeBeside d.removed table.now.rows d.table.rows) }
-    ensures told { IfOk result (λ d. length d.table.rows + length d.removed ≡ length table.now.rows) }
+    ensures rows { Computes (λ d. (remainder_of table.now d.left).rows) result (meant.remaining filter.now.columns context.entry.now (option_list filter.now.condition) table.now.rows) }
+    ensures others { IfOk result (λ d. remainder_of table.now d.left ≡ record table.now { rows = (remainder_of table.now d.left).rows }) }
+    ensures beside { IfOk result (λ d. RowsAgreeBeside d.removed table.now.rows (remainder_of table.now d.left).rows) }
+    ensures told { IfOk result (λ d. length (remainder_of table.now d.left).rows + length d.removed ≡ length table.now.rows) }
 {
     let mut left = table.copy()?;
     let mut removed = List::empty(alloc);
     match unset_met(alloc, table, context, filter, &mut left, &mut removed) {
         Ok(()) => Ok(Deleted {
-            table: left,
+            left: Remainder::Another(left),
             removed,
         }),
         Err(fault) => {
@@ -263,65 +276,42 @@ fn delete_one(
     number: u64,
 ) -> Result<Deleted, SqlFault>
     requires { PassesOver (IsUnmet columns.now filter.now) table.now.rows (key_rows.One number) }
-    ensures rows { Computes (λ d. d.table.rows) result (meant.remaining columns.now context.entry.now (option_list filter.now) table.now.rows) }
-    ensures others { IfOk result (λ d. d.table ≡ record table.now { rows = d.table.rows }) }
-    ensures beside { IfOk result (λ d. RowsAgreeBeside d.removed table.now.rows d.table.rows) }
-    ensures told { IfOk result (λ d. length d.table.rows + length d.removed ≡ length table.now.rows) }
+    ensures rows { Computes (λ d. (remainder_of table.now d.left).rows) result (meant.remaining columns.now context.entry.now (option_list filter.now) table.now.rows) }
+    ensures others { IfOk result (λ d. remainder_of table.now d.left ≡ record table.now { rows = (remainder_of table.now d.left).rows }) }
+    ensures beside { IfOk result (λ d. RowsAgreeBeside d.removed table.now.rows (remainder_of table.now d.left).rows) }
+    ensures told { IfOk result (λ d. length (remainder_of table.now d.left).rows + length d.removed ≡ length table.now.rows) }
 {
     numbered(table);
     match table.row(number) {
         Some(row) => {
             if !filter_holds(alloc, filter, row, columns, context)? {
-                return Ok(untouched(alloc, table)?);
+                return Ok(untouched(alloc));
             }
-            Ok(without_one(alloc, table, number)?)
+            Ok(without_one(alloc, number)?)
         }
-        None => Ok(untouched(alloc, table)?),
+        None => Ok(untouched(alloc)),
     }
 }
 
-// A table of which no row is met.
-fn untouched(alloc: Global, table: &Table) -> Result<Deleted, Memory>
-    ensures { IfOk result (λ d. d ≡ record { table = table.now; removed = [] }) }
+// No row is met.
+fn untouched(alloc: Global) -> Deleted
+    ensures { result ≡ record { left = remainders.Same; removed = [] } }
 {
-    Ok(Deleted {
-        table: table.copy()?,
+    Deleted {
+        left: Remainder::Same,
         removed: List::empty(alloc),
-    })
+    }
 }
 
-// A table without a row that is there.
-fn without_one(alloc: Global, table: &Table, number: u64) -> Result<Deleted, Memory>
-    requires { is_some (row_of table.now.rows number) ≡ true }
-    ensures table { IfOk result (λ d. d.table ≡ record table.now { rows = without_row table.now.rows number }) }
-    ensures beside { IfOk result (λ d. RowsAgreeBeside d.removed table.now.rows d.table.rows) }
-    ensures told { IfOk result (λ d. length d.table.rows + length d.removed ≡ length table.now.rows) }
+// The row of a number is met alone.
+fn without_one(alloc: Global, number: u64) -> Result<Deleted, Memory>
+    ensures { IfOk result (λ d. d ≡ record { left = remainders.Without number; removed = number ∷ [] }) }
 {
     let removed = only(alloc, number)?;
-    match without(table, number) {
-        Ok(left) => Ok(Deleted {
-            table: left,
-            removed,
-        }),
-        Err(Memory) => {
-            drop(removed);
-            Err(Memory)
-        }
-    }
-}
-
-// A copy of a table without the row of a number, if there is one.
-fn without(table: &Table, number: u64) -> Result<Table, Memory>
-    ensures { IfOk result (λ left. left ≡ record table.now { rows = without_row table.now.rows number }) }
-{
-    let mut left = table.copy()?;
-    match left.unset(number) {
-        Ok(_) => Ok(left),
-        Err(Memory) => {
-            drop(left);
-            Err(Memory)
-        }
-    }
+    Ok(Deleted {
+        left: Remainder::Without(number),
+        removed,
+    })
 }
 
 fn only(alloc: Global, number: u64) -> Result<List<u64>, Memory>

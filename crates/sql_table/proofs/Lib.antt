@@ -9,3 +9,4 @@ pub mod Numbers
 pub mod Placing
 pub mod Rising
 pub mod RowLinks
+pub mod Taking

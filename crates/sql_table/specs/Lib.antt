@@ -1,4 +1,5 @@
 pub mod Columns
+pub mod Entries
 pub mod KeySeen
 pub mod Keys
 pub mod Lacking

@@ -1,11 +1,12 @@
 // Indexes of rows: the marks of each row, which are its link numbers or its keys, with its number.
-ghost use Rattle.std.specs.Prelude.{◌≡◌, ◌++◌, IfOk, OnOk};
+ghost use Rattle.std.specs.Prelude.{◌≡◌, ◌++◌, [], IfOk, OnOk};
 ghost use Rattle.std.specs.Cmp.Lexicographic.{pointwise};
 ghost use Rattle.std.specs.List.Sorted.{IsStrictlySortedBy};
 ghost use Rattle.std.specs.Ordering.{is_eq};
 ghost use Rattle.dl_pages.specs.Entries.{entry_order};
 ghost use Rattle.dl_pages.specs.Orders.{link_order};
 ghost use Rattle.meaning_tables.specs.Tables.{Rise};
+ghost use Rattle.sql_table.specs.Entries.{AreEntries};
 ghost use Rattle.sql_table.specs.Keys.{key_order, key_marks};
 ghost use Rattle.sql_table.specs.Marks.{WithMarks, WithoutMarks, OtherMarks, IsIndex, cell_marks, link_marks};
 
@@ -251,6 +252,49 @@ pub(crate) fn without_entries(
             drop(links);
             Err(fault)
         }
+    }
+}
+
+/// What the indexes have of a row.
+#[derive(Drop)]
+pub(crate) enum Entries {
+    /// Nothing.
+    Nothing,
+    /// One key, and no link number.
+    Key(Key),
+    /// Link numbers, or more than one key.
+    More,
+}
+
+/// What the indexes have of a row.
+#[tactic(auto, using(crate::proofs::Taking::none_of_length))]
+pub(crate) fn entries_of(columns: &List<Column>, row: &Row) -> Result<Entries, Memory>
+    ensures { IfOk result (λ made. AreEntries made (link_marks columns.now row.now) (key_marks columns.now row.now)) }
+{
+    let links = row_marks(columns, row)?;
+    let linked = 0 < links.len();
+    drop(links);
+    if linked {
+        return Ok(Entries::More);
+    }
+    Ok(entries_of_keys(row_keys(columns, row)?))
+}
+
+// What the indexes have of a row of these keys, and of no link numbers.
+#[tactic(auto, using(crate::proofs::Taking::alone))]
+fn entries_of_keys(keys: List<Key>) -> Entries
+    ensures { AreEntries result [] keys }
+{
+    if 1 < keys.len() {
+        drop(keys);
+        return Entries::More;
+    }
+    let mut keys = keys;
+    let last = keys.pop();
+    drop(keys);
+    match last {
+        Some(key) => Entries::Key(key),
+        None => Entries::Nothing,
     }
 }
 

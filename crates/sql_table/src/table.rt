@@ -5,19 +5,22 @@ ghost use Rattle.dl_base.specs.Limits.{most_rows, row_numbers};
 ghost use Rattle.dl_pages.specs.Orders.{link_order};
 ghost use Rattle.meaning_tables.specs.First.{first_number, has_key, has_link};
 ghost use Rattle.meaning_tables.specs.Tables.{Rise, row_of, with_row, without_row, new_table, with_inserted};
+ghost use Rattle.sql_table.specs.Entries.{AreEntriesOf};
 ghost use Rattle.sql_table.specs.Marks.{IsIndex, IsKept, link_marks};
 ghost use Rattle.sql_table.specs.Places.{IsPlace};
+ghost use Rattle.sql_table.specs.declared.index.Entries.TheVariants as entries;
 
 mod replaying;
 
 use crate::columns::Columns;
 use crate::index::{
-    Indexes, key_index, link_index, with_entries, with_other_entries, without_entries,
+    Entries, Indexes, entries_of, key_index, link_index, with_entries, with_other_entries,
+    without_entries,
 };
 use crate::key::{Key, number_probe, text_probe};
 use crate::numbered::{Numbered, shared_rows};
 use dl_base::{Column, Copied, LinkNo, List, Memory, Row, Same, Value};
-use dl_pages::{Pages, Predicate, least};
+use dl_pages::{Pages, Predicate, least, remove_with_member};
 use std::alloc::Global;
 use std::marker::Model;
 use std::mem;
@@ -277,16 +280,18 @@ impl Table {
     }
 
     /// Takes the row of a number out; false where no row has the number, and then nothing has changed. After an `Err` the table is
-    /// as it was. The cost grows with the logarithm of the number of rows.
+    /// as it was. The cost grows with the logarithm of the number of rows. Where the row has no link number and at most one key,
+    /// pages that no copy shares are changed where they stand.
     #[tactic(auto, using(crate::proofs::Numbers::is_there))]
     pub fn unset(&mut self, number: u64) -> Result<bool, Memory>
         ensures found { IfOk result (λ found. found ≡ is_some (row_of self.old.rows number)) }
         ensures ok { OnOk result (self.new ≡ record self.old { rows = without_row self.old.rows number }) }
         ensures err { OnErr result (self.new ≡ self.old) }
     {
-        match self.place(number) {
-            Some(place) => {
-                self.take_out(place, number)?;
+        match self.find(number) {
+            Some((place, row)) => {
+                let entries = entries_of(self.columns(), row)?;
+                self.take_out(place, number, entries)?;
                 Ok(true)
             }
             None => Ok(false),
@@ -313,8 +318,47 @@ impl Table {
         Ok(())
     }
 
-    // Takes the row of a number out, which stands there.
-    fn take_out(&mut self, place: usize, number: u64) -> Result<(), Memory>
+    // Takes the row of a number out, which stands there, and of which the indexes have this.
+    fn take_out(&mut self, place: usize, number: u64, entries: Entries) -> Result<(), Memory>
+        requires at { IsPlace self.old.rows number place }
+        requires entries { AreEntriesOf self.old.columns self.old.rows number entries }
+        ensures ok { OnOk result (self.new ≡ record self.old { rows = without_row self.old.rows number }) }
+        ensures err { OnErr result (self.new ≡ self.old) }
+    {
+        match entries {
+            Entries::Nothing => self.take_plain(place, number),
+            Entries::Key(key) => self.take_keyed(place, number, key),
+            Entries::More => self.take_copied(place, number),
+        }
+    }
+
+    // Takes the row of a number out, which stands there, and of which the indexes have nothing.
+    fn take_plain(&mut self, place: usize, number: u64) -> Result<(), Memory>
+        requires at { IsPlace self.old.rows number place }
+        requires entries { AreEntriesOf self.old.columns self.old.rows number entries.Nothing }
+        ensures ok { OnOk result (self.new ≡ record self.old { rows = without_row self.old.rows number }) }
+        ensures err { OnErr result (self.new ≡ self.old) }
+    {
+        let _ = number;
+        self.rows.remove(self.columns.list().allocator(), place)
+    }
+
+    // Takes the row of a number out, which stands there, and with it its key, where the indexes have this alone of it.
+    fn take_keyed(&mut self, place: usize, number: u64, key: Key) -> Result<(), Memory>
+        requires at { IsPlace self.old.rows number place }
+        requires entries { AreEntriesOf self.old.columns self.old.rows number (entries.Key key) }
+        ensures ok { OnOk result (self.new ≡ record self.old { rows = without_row self.old.rows number }) }
+        ensures err { OnErr result (self.new ≡ self.old) }
+    {
+        let alloc = self.columns.list().allocator();
+        let entry = (key, number);
+        let taken = remove_with_member(alloc, &mut self.rows, place, &mut self.keys, &entry);
+        drop(entry);
+        taken
+    }
+
+    // Takes the row of a number out of copies of the parts, which come in their place.
+    fn take_copied(&mut self, place: usize, number: u64) -> Result<(), Memory>
         requires { IsPlace self.old.rows number place }
         ensures ok { OnOk result (self.new ≡ record self.old { rows = without_row self.old.rows number }) }
         ensures err { OnErr result (self.new ≡ self.old) }

@@ -1,12 +1,12 @@
 // Tables by name.
-ghost use Rattle.std.specs.Prelude.{◌≡◌, ◌↔◌, IsTrue, ◌+◌, ◌++◌, ◌∷◌, [], None, IfOk, OnOk, OnErr, length, map, drop, slice_get, is_some, MatchOption, ◌==◌, ◌<◌, ◌^◌};
+ghost use Rattle.std.specs.Prelude.{◌≡◌, ◌↔◌, IsTrue, ◌+◌, ◌++◌, ◌∷◌, [], None, Some, IfOk, OnOk, OnErr, length, map, drop, slice_get, is_some, MatchOption, ◌==◌, ◌<◌, ◌^◌};
 ghost use Rattle.std.specs.Borrow.{sem};
 ghost use Rattle.std.specs.Cmp.Lexicographic.{pointwise};
 ghost use Rattle.std.specs.List.{IsDistinct};
 ghost use Rattle.std.specs.Option.{option_copied, option_copied_mut, option_map};
 ghost use Rattle.indexmap.specs.IndexMap.{insert_entry};
 ghost use Rattle.meaning_tables.specs.First.{first_cell};
-ghost use Rattle.meaning_tables.specs.Tables.{table_of, with_table, without_table, new_table};
+ghost use Rattle.meaning_tables.specs.Tables.{Rows, table_of, with_table, without_table, without_row, new_table};
 ghost use Rattle.sql_table.specs.Lending.{LendsTable};
 
 use crate::Table;
@@ -83,6 +83,23 @@ impl Tables {
                 drop(table);
                 None
             }
+        }
+    }
+
+    /// Takes the row of a number out of the table of a name, where it stands; nothing changes where no table has the name, or no row
+    /// the number. After an `Err` the tables are as they were. The cost grows with the logarithm of the number of rows; no
+    /// copy of the table is made.
+    pub fn unset(&mut self, name: &Name, number: u64) -> Result<(), Memory>
+        ensures ok { (t : Rows) → table_of self.old name.now ≡ Some t → OnOk result (self.new ≡ with_table self.old name.now (record t { rows = without_row t.rows number })) }
+        ensures none { table_of self.old name.now ≡ None → self.new ≡ self.old }
+        ensures err { OnErr result (self.new ≡ self.old) }
+    {
+        match self.table_mut(name) {
+            Some(table) => {
+                let _ = table.unset(number)?;
+                Ok(())
+            }
+            None => Ok(()),
         }
     }
 

@@ -44,7 +44,6 @@ use Rattle.sys_core.proofs.Behind.{EachLeads, IsNoRestore, behind-sound}
 use Rattle.sys_core.proofs.Commanding.{seated-same}
 use Rattle.sys_core.proofs.Refused.{IsRefused}
 use Rattle.sys_core.proofs.Seating.{PiecesStay, stage-phase}
-use Rattle.sys_core.proofs.Spelled.{as-spelled}
 use Rattle.sys_core.specs.Archiving.{first_link}
 use Rattle.sys_core.specs.Claiming.{tables_in}
 use Rattle.sys_core.specs.Seated.{AreSeated, IsSeat}
@@ -52,6 +51,7 @@ use Rattle.sys_core.specs.Standing.{IsOf}
 use Rattle.sys_core.specs.Steps.{Steps, records_of}
 use Rattle.sys_core.specs.declared.engine.Engine.{Engine}
 use Rattle.sys_owners.specs.Owned.{Owned, folds_in, journals_of}
+use Rattle.sys_records.proofs.Spelled.{as-spelled}
 use Rattle.sys_seats.specs.Seats.{Seated, first_bound, phase_of, phases_in, unfinished_of}
 use Rattle.sys_seats.specs.declared.seat.Seat.{Seat}
 

@@ -1,9 +1,8 @@
 -- A TRANSACTION BEGINS.
-use Rattle.std.proofs.Common.{◌≡◌, ℕ, ◌+◌, ◌-◌, ◌*◌, ◌^◌, ◌<◌, ◌≤◌, List, [], ◌++◌, Bool, true, false, cond, ◌&&◌, map, nat_lt, Option, Some, None, Result, Ok, Err, OnOk, refl, sym, ◌∙◌, ap, subst, arith}
+use Rattle.std.proofs.Common.{◌≡◌, ℕ, ◌+◌, ◌-◌, ◌*◌, ◌^◌, ◌<◌, ◌≤◌, List, [], ◌++◌, Bool, true, false, cond, ◌&&◌, map, nat_lt, Option, Some, None, Result, Ok, Err, refl, sym, ◌∙◌, ap, subst, arith}
 use Rattle.std.proofs.lemmas.Bool.Decides.{nat_tests}
 use Rattle.std.specs.FinMap as maps
 use Rattle.std.specs.Option.{option_map}
-use Rattle.std.specs.Result.{result_err}
 use Rattle.db_store.specs.Store.{drawn_next}
 use Rattle.db_txn.specs.Transaction.{Transaction}
 use Rattle.db_txn.specs.Transaction as working
@@ -92,11 +91,6 @@ draw-left n none = by (nat_lt most_numbers n) refl none
 pub left-is : (o : Option Full) → None ≡ option_map (λ f. appends.Full f) o → o ≡ None
 left-is None e = refl
 left-is (Some f) e = absurd (none_some (appends.Full f) e)
-
--- and then it is drawn
-pub on-drawn : {T P : Type 0} (r : Result T AppendFault) (o : Option Full) → o ≡ None → result_err r ≡ option_map (λ f. appends.Full f) o → OnOk r P → P
-on-drawn (Ok x) o left full p = p
-on-drawn (Err a) o left full p = absurd (none_some a (sym (full ∙ ap (option_map (λ f. appends.Full f)) left)))
 
 -- the number that comes is the machine's
 pub next-is : (first : ℕ) (w : Engine) (s : State) → IsOf first w s → drawn_next w.owners.store ≡ number_of (drawing s)

@@ -42,7 +42,6 @@ use Rattle.meaning_system.specs.Following.{AreRestored}
 use Rattle.meaning_system.specs.Machine.{by_refusal, step}
 use Rattle.meaning_system.specs.State.{State, Txn, is_active}
 use Rattle.meaning_system.specs.Writes.{file_writes, is_refused, when, writes}
-use Rattle.sys_core.proofs.Managing.{manager-ends}
 use Rattle.sys_core.specs.Guarded.{looked}
 use Rattle.sys_core.specs.Seated.{AreSeated, IsAtStage, IsSeat}
 use Rattle.sys_core.specs.Standing.{IsOf}
@@ -50,6 +49,7 @@ use Rattle.sys_core.specs.Steps.{Steps, records_of}
 use Rattle.sys_core.specs.declared.engine.Engine.{Engine}
 use Rattle.sys_owners.proofs.Placing.{with_manager}
 use Rattle.sys_owners.specs.Owned.{folds_in, journals_of}
+use Rattle.sys_records.proofs.Managing.{manager-ends}
 use Rattle.sys_seats.specs.Seats.{Seated}
 use Rattle.sys_seats.specs.declared.seat.Seat.{Seat}
 use Rattle.sys_seats.specs.declared.seat.Stage.{Stage}

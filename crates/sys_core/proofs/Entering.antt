@@ -1,5 +1,5 @@
 -- A VOTE IS WRITTEN AND KEPT, or is not, by the owners that are left.
-use Rattle.std.proofs.Common.{◌≡◌, ◌≤◌, ◌+◌, ℕ, length, List, [], Option, Some, None, Result, Ok, Err, OnErr, sym, ◌∙◌, ap, subst}
+use Rattle.std.proofs.Common.{◌≡◌, ◌≤◌, ◌+◌, ℕ, length, List, [], Option, Some, None, Result, Ok, Err, sym, ◌∙◌, ap, subst}
 use Rattle.std.specs.FinMap as maps
 use Rattle.std.specs.Result.{result_err}
 use Rattle.db_changes.specs.Made.{Making}
@@ -18,22 +18,20 @@ use Rattle.meaning_settling.specs.Settling.{Moved}
 use Rattle.meaning_system.specs.Machine.{step}
 use Rattle.meaning_system.specs.State.{State, Txn, moved_of}
 use Rattle.meaning_system.specs.Writes.{prepared}
-use Rattle.sys_core.proofs.Roomy.{room-journals, room-state}
+use Rattle.sys_core.proofs.Roomy.{room-state}
 use Rattle.sys_core.proofs.Seating.{seat-moved}
 use Rattle.sys_core.proofs.Voted.{Laws, can-roomy, vote-state}
 use Rattle.sys_core.specs.Seated.{IsSeatOf, making_of}
 use Rattle.sys_core.specs.Standing.{IsOf}
-use Rattle.sys_core.specs.Voting.{CanEnter, CanVote, HaveMoreRoom, Votes}
+use Rattle.sys_core.specs.Voting.{CanEnter, CanVote, Votes}
 use Rattle.sys_core.specs.declared.engine.Engine.{Engine}
 use Rattle.sys_owners.specs.Owned.{Owned, folds_in, journals_of}
+use Rattle.sys_records.proofs.Roomy.{room-journals}
+use Rattle.sys_records.specs.Room.{HaveMoreRoom}
 use Rattle.sys_seats.specs.Seats.{Seated, all_of, gives_of, votes_of, with_stage}
 use Rattle.sys_seats.specs.declared.seat.Seat.{Seat}
 use Rattle.sys_seats.specs.declared.seat.Stage.TheVariants as stages
 use Rattle.sys_seats.specs.declared.seat.Vote.{Vote}
-
-pub on-err : {T E P Q : Type 0} (r : Result T E) → OnErr r P → (P → Q) → OnErr r Q
-on-err (Ok x) p f = p
-on-err (Err e) p f = f p
 
 module _ (first : ℕ) (s : State) (session tx : ℕ) (t : Txn) (w : Engine) (can : CanVote first w s session tx t) where
   -- BEFORE IT IS WRITTEN there is more room

@@ -4,7 +4,6 @@ pub mod BackingUp
 pub mod Beginning
 pub mod Behind
 pub mod Between
-pub mod Branched
 pub mod Claiming
 pub mod Commanding
 pub mod Deciding
@@ -15,10 +14,8 @@ pub mod Finishing
 pub mod Guarding
 pub mod Knowing
 pub mod Left
-pub mod Managing
 pub mod Others
 pub mod Preparing
-pub mod PuttingBack
 pub mod Refusals
 pub mod Refused
 pub mod Restored

@@ -63,20 +63,21 @@ use Rattle.sys_core.proofs.Beginning.{draw-left, next-is}
 use Rattle.sys_core.proofs.Behind.{EachLeads}
 use Rattle.sys_core.proofs.Commanding.{seated-same}
 use Rattle.sys_core.proofs.Deciding.{room-for-one}
-use Rattle.sys_core.proofs.PuttingBack.{no-finish}
 use Rattle.sys_core.proofs.Refused.{IsRefused}
 use Rattle.sys_core.proofs.Roomy.{room-state}
 use Rattle.sys_core.proofs.Seating.{PiecesStay}
-use Rattle.sys_core.proofs.Spelled.{as-spelled}
 use Rattle.sys_core.proofs.Stepped.{steps-done}
-use Rattle.sys_core.specs.Restoring.{ArePieces, ArePiecesSpelled, CanPutBack, CanRestore, CanWrite, IsMadeFor, commit_part, making_by, moved_by, moved_in, restore_part}
+use Rattle.sys_core.specs.Restoring.{CanPutBack, CanRestore}
 use Rattle.sys_core.specs.Standing.{IsOf}
 use Rattle.sys_core.specs.Steps.{Steps, draws_for, records_of, undrawn}
-use Rattle.sys_core.specs.Voting.{HaveMoreRoom}
 use Rattle.sys_core.specs.declared.engine.Engine.{Engine}
-use Rattle.sys_core.specs.declared.restoring.Restoration.{Restoration}
 use Rattle.sys_owners.proofs.Spelling.{finish-spelled}
 use Rattle.sys_owners.specs.Owned.{Owned, folds_in, journals_of}
+use Rattle.sys_records.proofs.PuttingBack.{no-finish}
+use Rattle.sys_records.proofs.Spelled.{as-spelled}
+use Rattle.sys_records.specs.Restoring.{ArePieces, ArePiecesSpelled, CanWrite, IsMadeFor, commit_part, making_by, moved_by, moved_in, restore_part}
+use Rattle.sys_records.specs.Room.{HaveMoreRoom}
+use Rattle.sys_records.specs.declared.restoring.Restoration.{Restoration}
 use Rattle.sys_seats.specs.Seats.{all_of, gives_of, votes_of}
 
 none_some : {A : Type 0} (x : A) → None ≡ Some x → ⊥

@@ -41,11 +41,8 @@ use Rattle.sys_core.specs.Between.{DecidesTo, IsBetween}
 use Rattle.sys_core.specs.Seated.{IsSeatOf, making_of}
 use Rattle.sys_core.specs.declared.engine.Engine.{Engine}
 use Rattle.sys_owners.proofs.Taking.{finish-last}
+use Rattle.sys_records.proofs.Spelled.{as-spelled}
 use Rattle.sys_seats.specs.declared.seat.Seat.{Seat}
-
--- the same records
-pub as-spelled : (xs ys : List Written) → xs ≡ ys → AreSpelled ys → AreSpelled xs
-as-spelled xs ys are spelled = subst (λ (l : List Written). AreSpelled l) (sym are) spelled
 
 -- a step that writes nothing
 pub nothing-spelled : (xs : List Written) → as_writes xs ≡ [] → AreSpelled xs

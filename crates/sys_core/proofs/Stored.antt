@@ -38,18 +38,19 @@ use Rattle.meaning_system.specs.Writes.{archive_list, archive_writes, copy_list,
 use Rattle.sys_core.proofs.Behind.{EachLeads, IsNoRestore, behind-sound, behind-taken}
 use Rattle.sys_core.proofs.Commanding.{seated-same}
 use Rattle.sys_core.proofs.Refused.{IsRefused}
-use Rattle.sys_core.proofs.Roomy.{room-journals, room-state}
+use Rattle.sys_core.proofs.Roomy.{room-state}
 use Rattle.sys_core.proofs.Seating.{PiecesStay}
-use Rattle.sys_core.proofs.Spelled.{as-spelled}
 use Rattle.sys_core.proofs.Stepped.{steps-done, steps-fault}
 use Rattle.sys_core.specs.Archiving.{CanStore, awaited, copy_at, pending_link}
 use Rattle.sys_core.specs.Standing.{IsOf}
 use Rattle.sys_core.specs.Steps.{Steps, records_of}
-use Rattle.sys_core.specs.Voting.{HaveMoreRoom}
 use Rattle.sys_core.specs.declared.engine.Engine.{Engine}
 use Rattle.sys_owners.proofs.Placing.{manager-does, with_manager}
 use Rattle.sys_owners.proofs.Taking.{taken-anywhere}
 use Rattle.sys_owners.specs.Owned.{Owned, folds_in, journals_of}
+use Rattle.sys_records.proofs.Roomy.{room-journals}
+use Rattle.sys_records.proofs.Spelled.{as-spelled}
+use Rattle.sys_records.specs.Room.{HaveMoreRoom}
 use Rattle.sys_seats.specs.Seats.{all_of, gives_of}
 
 none_some : {A : Type 0} (x : A) → None ≡ Some x → ⊥

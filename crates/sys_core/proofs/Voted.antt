@@ -2,14 +2,11 @@
 use Rattle.std.proofs.Common.{◌≡◌, ◌≤◌, ◌+◌, ℕ, length, true, false, not, List, [], Option, Some, None, is_some, Result, Ok, Err, refl, sym, ◌∙◌, ap, subst, arith}
 use Rattle.std.specs.FinMap as maps
 use Rattle.db_txn.specs.Transaction.{Transaction, made_of, with_made}
-use Rattle.dl_areas.specs.Lists.{AreReady, Journals, Write}
 use Rattle.dl_areas.specs.Writing.{Does, Ends}
 use Rattle.dl_base.specs.Outside.{Outside}
 use Rattle.dl_base.specs.declared.answer.Answer.{Answer}
 use Rattle.dl_base.specs.declared.answer.Answer.TheVariants as answers
 use Rattle.dl_base.specs.declared.answer.Refusal.{Refusal}
-use Rattle.dl_base.specs.declared.area.Area.{Area}
-use Rattle.dl_base.specs.declared.area.Area.TheVariants as areas
 use Rattle.dl_base.specs.declared.fault.StepFault.{StepFault}
 use Rattle.dl_base.specs.declared.fault.StepFault.TheVariants as faults
 use Rattle.dl_base.specs.declared.step.Phase.{Phase}
@@ -18,7 +15,7 @@ use Rattle.dl_base.specs.declared.step.Step.TheVariants as steps
 use Rattle.dl_base.specs.declared.value.LinkRow.{LinkRow}
 use Rattle.fm_links.specs.Claims.{PathClaim, moved}
 use Rattle.fm_links.specs.Searching.{AreClaims}
-use Rattle.fm_manager.specs.Managed.{Managed, ManagesStep, as_writes, with_managed}
+use Rattle.fm_manager.specs.Managed.{as_writes}
 use Rattle.fm_manager.specs.Pieces.{Pieces}
 use Rattle.fm_pieces.specs.Keeping.{HasPieces}
 use Rattle.meaning_areas.proofs.Tables.{get-here, get-there}
@@ -40,10 +37,10 @@ use Rattle.sys_core.proofs.Voting.{there-in}
 use Rattle.sys_core.specs.Seated.{AreSeated, IsSeat, IsSeatOf, IsVote, making_of, shown_by}
 use Rattle.sys_core.specs.Standing.{IsOf}
 use Rattle.sys_core.specs.Steps.{Shows, Steps}
-use Rattle.sys_core.specs.Voting.{CanVote, HaveMoreRoom, Votes}
+use Rattle.sys_core.specs.Voting.{CanVote, Votes}
 use Rattle.sys_core.specs.declared.engine.Engine.{Engine}
-use Rattle.sys_owners.proofs.Placing.{with_manager}
 use Rattle.sys_owners.specs.Owned.{Owned, folds_in, journals_of}
+use Rattle.sys_records.specs.Room.{HaveMoreRoom}
 use Rattle.sys_seats.specs.Seats.{Seated, all_of, count_at, gives_of, votes_of, with_stage}
 use Rattle.sys_seats.specs.declared.seat.Seat.{Seat}
 use Rattle.sys_seats.specs.declared.seat.Stage.TheVariants as stages
@@ -173,22 +170,6 @@ module _ (laws : Laws) (first : ℕ) (w : Engine) (s : State) (session tx : ℕ)
 -- with more room a vote can be written
 pub can-roomy : (first : ℕ) (w : Engine) (s : State) (session tx : ℕ) (t : Txn) (u : Owned) → HaveMoreRoom w.owners u → CanVote first w s session tx t → CanVote first (record w { owners = u }) s session tx t
 can-roomy first w s session tx t u r can = record { state = room-state first w s u r can.state; txn = can.txn; active = can.active; passes = can.passes }
-
--- A STEP OF THE MANAGER is one of all five areas
-
-manager-at : (w : Owned) (m : Managed) → with_managed m (journals_of w) ≡ journals_of (with_manager w m)
-manager-at w m = λ i a. each a i
-  where
-    each : (a : Area) → with_managed m (journals_of w) a ≡ journals_of (with_manager w m) a
-    each areas.Rows = refl
-    each areas.Links = refl
-    each areas.Files = refl
-    each areas.Archive = refl
-    each areas.Backups = refl
-
-pub manager-ends : (w : Owned) (ws : List Write) (fault : Option StepFault) (o n : Outside) → AreReady (journals_of w) o → (m : Managed) → ManagesStep w.manager m ws fault o n → Ends (journals_of w) (journals_of (with_manager w m)) ws fault o n
-manager-ends w ws fault o n ready m call =
-    subst (λ (ks : Journals). Ends (journals_of w) ks ws fault o n) (manager-at w m) (call.ends (journals_of w) ready (manager-at w w.manager))
 
 -- HOW THE STEP ENDS
 

@@ -1,4 +1,4 @@
--- WHY A TRANSACTION IS NOT VOTED FOR, what is made for a vote, and its record.
+-- WHY A TRANSACTION IS NOT VOTED FOR, and what is there where it is.
 use Rattle.std.proofs.Common.{◌≡◌, ◌≤◌, ℕ, length, drop, true, false, cond, List, ◌∷◌, Some, None, refl, sym, ◌∙◌, ap, subst}
 use Rattle.std.proofs.lemmas.List.{at_drop_all}
 use Rattle.std.specs.FinMap as maps
@@ -6,18 +6,13 @@ use Rattle.dl_base.specs.declared.answer.Refusal.{Refusal}
 use Rattle.dl_base.specs.declared.answer.Refusal.TheVariants as reasons
 use Rattle.dl_base.specs.declared.value.LinkRow.{LinkRow}
 use Rattle.fm_links.specs.Claims.{moved}
-use Rattle.fm_manager.specs.Managed.{Managed}
-use Rattle.fm_manager.specs.Managed as managed
-use Rattle.fm_manager.specs.Pieces.{AreOf, Pieces}
-use Rattle.fm_pieces.specs.Keeping.{AreThere, HasPieces, left_of}
-use Rattle.meaning_areas.specs.Finishing.{batch_changes, copy_records}
+use Rattle.fm_pieces.specs.Keeping.{AreThere}
 use Rattle.meaning_areas.specs.Lists.{Folds}
 use Rattle.meaning_files.specs.Files.{Files}
 use Rattle.meaning_history.specs.Sound.{AreSound}
-use Rattle.meaning_settling.specs.Settling.{Copies, Kept, Moved}
 use Rattle.meaning_system.proofs.Leading.{txn-there}
 use Rattle.meaning_system.specs.Claims.{doomed, files_refusal, no_file, or_else, prepare_refusal, seen_or_zero}
-use Rattle.meaning_system.specs.State.{State, Txn, has_links, is_decided, is_doomed, kept_in, moved_of, txn_of}
+use Rattle.meaning_system.specs.State.{State, Txn, has_links, is_decided, is_doomed, moved_of, txn_of}
 use Rattle.sys_core.proofs.Refusals.{first-is, second-is}
 use Rattle.sys_core.proofs.Seating.{seat-doomed, seat-is, seat-moved, seat-of}
 use Rattle.sys_core.specs.Claiming.{doomed_at, file_refusal_in}
@@ -99,30 +94,6 @@ module _ (s : State) (w : Engine) (all rest later : List LinkRow) (d : LinkRow) 
 -- none is left to look at
 pub files-there : (s : State) (xs all : List LinkRow) (i : ℕ) → xs ≡ all → length xs ≤ i → files_refusal s (drop i all) ≡ files_refusal s all → None ≡ files_refusal s all
 files-there s xs all i same past so_far = sym (at_drop_all (files_refusal s) all i (subst (λ (l : List LinkRow). length l ≤ i) same past)) ∙ so_far
-
--- THE PIECES of the Finish of a transaction, for which no held link counts
-
-abbrev kept-of : Files → Copies → Kept
-kept-of files copies = record { files = files; copies = copies; held = maps.empty }
-
-module _ (s : State) (t : Txn) (m : Managed) (gives takes : List LinkRow) (files : s.files ≡ m.files.files) (copies : s.copies ≡ m.archive.copies) (is_gives : gives ≡ (moved_of t).gives) (is_takes : takes ≡ (moved_of t).takes) where
-  same-moved : moved gives takes ≡ moved_of t
-  same-moved = λ i. record { gives = is_gives i; takes = is_takes i; fill = false }
-
-  pub no-pieces : has_links (moved gives takes) ≡ false → has_links (moved_of t) ≡ false
-  no-pieces none = ap has_links (sym same-moved) ∙ none
-
-  pub pieces-made : (law : (n : Moved) (k : Kept) (p : Pieces) → AreOf p n k → AreOf (left_of k.copies p) n k)
-      → (tx : ℕ) (p : Pieces) → has_links (moved gives takes) ≡ true → p.tx ≡ tx → AreOf p (moved gives takes) (managed.kept_in m) → AreThere s.files (moved_of t) → HasPieces s tx t (Some p)
-  pieces-made law tx p has own of there = (
-    ap has_links (sym same-moved) ∙ has,
-    own,
-    law (moved_of t) (kept_in s) p (record {
-      copies = of.copies ∙ (λ i. copy_records (same-moved i) (kept-of (sym files i) (sym copies i)));
-      changes = of.changes ∙ (λ i. batch_changes (same-moved i) (kept-of (sym files i) (sym copies i)));
-    }),
-    there,
-  )
 
 -- where it is voted for its files are there
 pub files-voted : ((first : ℕ) (f : Folds) (s : State) (tx : ℕ) (t : Txn) → AreSound first f s → maps.get s.txs tx ≡ Some t → is_decided t.phase ≡ false → prepare_refusal s t ≡ None → AreThere s.files (moved_of t))

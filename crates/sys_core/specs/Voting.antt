@@ -7,7 +7,7 @@ use Rattle.dl_base.specs.declared.fault.StepFault.{StepFault}
 use Rattle.dl_base.specs.declared.fault.StepFault.TheVariants as faults
 use Rattle.dl_base.specs.declared.step.Phase.TheVariants as phases
 use Rattle.dl_base.specs.declared.step.Step.TheVariants as steps
-use Rattle.fm_manager.specs.Managed.{Roomier, as_writes}
+use Rattle.fm_manager.specs.Managed.{as_writes}
 use Rattle.meaning_system.specs.Claims.{prepare_refusal}
 use Rattle.meaning_system.specs.Machine.{step}
 use Rattle.meaning_system.specs.State.{State, Txn, moved_of, txn_of}
@@ -15,16 +15,9 @@ use Rattle.meaning_system.specs.Writes.{prepared}
 use Rattle.sys_core.specs.Seated.{IsVote}
 use Rattle.sys_core.specs.Standing.{IsOf}
 use Rattle.sys_core.specs.declared.engine.Engine.{Engine}
-use Rattle.sys_owners.specs.Owned.{Owned, journals_of}
+use Rattle.sys_owners.specs.Owned.{journals_of}
 use Rattle.sys_seats.specs.Seats.{all_of, gives_of, votes_of}
 use Rattle.sys_seats.specs.declared.seat.Vote.{Vote}
-
--- the same owners, with no less room
-pub record HaveMoreRoom (w v : Owned) : Type 0 where
-  pub store : v.store ≡ record w.store { spare = v.store.spare }
-  pub commits : w.store.spare ≤ v.store.spare
-  pub manager : Roomier w.manager v.manager
-  pub backups : v.backups ≡ w.backups
 
 -- the transaction of a session is active, and nothing refuses the vote
 pub record CanVote (first : ℕ) (w : Engine) (s : State) (session tx : ℕ) (t : Txn) : Type 0 where

@@ -12,13 +12,12 @@ ghost use Rattle.meaning_system.specs.Writes.{writes};
 ghost use Rattle.sys_core.specs.Archiving.{CanStore, awaited, awaited_in};
 ghost use Rattle.sys_core.specs.Standing.{IsOf};
 ghost use Rattle.sys_core.specs.Steps.{Steps};
-ghost use Rattle.sys_core.specs.Voting.{HaveMoreRoom};
 ghost use Rattle.sys_owners.specs.Owned.{journals_of};
+ghost use Rattle.sys_records.specs.Room.{HaveMoreRoom};
 ghost use Rattle.sys_seats.specs.Seats.{all_of, gives_of};
 
 use crate::engine::Engine;
 use crate::numbered::link_of_number;
-use crate::vote::gives_with;
 use dl_areas::calls_follow_one_another;
 use dl_base::{Answer, Bench, LinkNo, LinkRow, List, Memory, Refusal, StepFault};
 use fm_archive::CopyMade;
@@ -28,6 +27,7 @@ use fm_manager::Manager;
 use fm_pieces::pieces_stay_what_they_are;
 use meaning_history::each_step_leads_on;
 use std::alloc::Global;
+use sys_records::gives_with;
 
 impl Engine {
     /// Stores the copy of a link that waits for one: the bytes of its file, with the owner that the file had before it was linked. It is

@@ -17,7 +17,6 @@ ghost use Rattle.sys_core.specs.Steps.{Steps};
 ghost use Rattle.sys_owners.specs.Owned.{journals_of};
 
 use crate::engine::Engine;
-use crate::restoring::{Restoration, make_restoration, write_restore};
 use bk_restore::{Planned, RestorePlan, plan};
 use dl_areas::calls_follow_one_another;
 use dl_base::{Answer, Bench, Memory, Refusal, StepFault, Target};
@@ -25,6 +24,7 @@ use fm_links::claims_behind_other_steps;
 use fm_pieces::pieces_stay_what_they_are;
 use meaning_history::each_step_leads_on;
 use meaning_restore::restores_go_on_with_the_history;
+use sys_records::{Restoration, make_restoration, write_restore};
 
 impl Engine {
     /// Puts the tables of a backup, or those after a commit, in the place of the committed ones, as the next commit, whose number is

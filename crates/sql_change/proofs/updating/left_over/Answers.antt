@@ -1,16 +1,8 @@
-use Rattle.std.proofs.Common.{arith}
-use Rattle.std.proofs.lemmas.Grind.{common_steps}
-use Rattle.sql_change.specs.Parts.{left_over}
+use Rattle.meaning_sql.specs.Faults.{option_list}
+use Rattle.sql_change.proofs.Leaving.{left_is}
 use Rattle.sql_change.proofs.updating.left_over.Goals as goal
 
-pub returns-clause-few : goal.returns-clause-few
-unfolding left_over
-returns-clause-few c = grind (arith, common_steps)
-
-pub returns-clause-beside : goal.returns-clause-beside
-unfolding left_over
-returns-clause-beside c = grind (arith, common_steps)
-
-pub returns-clause-told : goal.returns-clause-told
-unfolding left_over
-returns-clause-told c = grind (arith, common_steps)
+pub returns-clause-made : goal.returns-clause-made
+returns-clause-made c = λ k.
+    let a = c.args in
+    left_is a.columns.now a.table.now a.filter.now a.context.now k (option_list c.in_ok-filter_type.field-0) c.delete_rows.result c.in_ok-filter_type.ensures c.delete_rows.ensures.rows c.delete_rows.ensures.others c.delete_rows.ensures.told

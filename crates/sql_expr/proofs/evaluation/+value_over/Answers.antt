@@ -11,9 +11,10 @@ use Rattle.meaning_sql.specs.Faults.{◌>>=◌, Computes}
 use Rattle.meaning_sql.specs.Operators.{binary, gather, gathered}
 use Rattle.meaning_sql.specs.Values.{Denotation}
 use Rattle.sql_expr.specs.Combining.{combined_row}
-use Rattle.sql_expr.specs.Seeing.{seen}
-use Rattle.sql_expr.specs.Trees.{said, said_value, unary_value}
-use Rattle.sql_expr.specs.declared.seen.Seen.{Seen}
+use Rattle.sql_operators.specs.Seeing.{seen}
+use Rattle.sql_operators.specs.Unary.{unary_value}
+use Rattle.sql_expr.specs.Trees.{said, said_value}
+use Rattle.sql_operators.specs.declared.seen.Seen.{Seen}
 use Rattle.sql_expr.specs.declared.tree.Tree.{Tree}
 use Rattle.sql_expr.proofs.Combining.{alone}
 use Rattle.sql_expr.proofs.Equations.{said-Aggregate, said-Binary, said-Dlvalue, said-Unary}

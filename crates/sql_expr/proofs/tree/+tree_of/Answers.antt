@@ -1,7 +1,7 @@
 use Rattle.std.proofs.Common.{◌≡◌, IfOk, ap, sym, subst, ◌∙◌}
 use Rattle.sql_expr.specs.declared.tree.Tree.{Tree}
 use Rattle.sql_expr.specs.declared.tree.Tree as trees
-use Rattle.sql_expr.specs.declared.tree.Unary.TheVariants as unaries
+use Rattle.sql_operators.specs.declared.unary.Unary.TheVariants as unaries
 use Rattle.sql_expr.specs.Trees.{absent, tree_of}
 use Rattle.sql_expr.proofs.Placing as placing
 use Rattle.sql_expr.proofs.tree.+tree_of.Goals as goal

@@ -3,8 +3,8 @@ use Rattle.dl_base.specs.declared.answer.Answer.TheVariants as answers
 use Rattle.dl_base.specs.declared.step.Step.TheVariants as steps
 use Rattle.meaning_system.specs.Writes.{writes}
 use Rattle.sys_core.proofs.Deciding.{changes-told, commit-state, conflict-state, decides-to, nothing-ends, nothing-state, nothing-writes, shows-decided, shows-ended}
-use Rattle.sys_core.proofs.Spelled.{as-spelled}
 use Rattle.sys_owners.specs.Owned.{journals_of}
+use Rattle.sys_records.proofs.Spelled.{as-spelled}
 use Rattle.sys_core.proofs.engine.Engine.decide_on.Goals as goal
 
 -- it changes nothing

@@ -2,7 +2,7 @@ use Rattle.dl_base.specs.declared.step.Step.TheVariants as steps
 use Rattle.meaning_system.specs.State.{kept_in, moved_of}
 use Rattle.meaning_system.specs.Writes.{whole_finish, writes}
 use Rattle.sys_core.proofs.Finishing.{finish-done, finish-fault, finish-writes}
-use Rattle.sys_core.proofs.Spelled.{as-spelled}
+use Rattle.sys_records.proofs.Spelled.{as-spelled}
 use Rattle.sys_core.proofs.engine.Engine.finish_on.Goals as goal
 
 pub settle-requires-clause-stands : goal.settle-requires-clause-stands

@@ -1,4 +1,4 @@
-use Rattle.sys_core.proofs.Roomy.{room-manager, room-same, roomier-copies}
+use Rattle.sys_records.proofs.Roomy.{room-manager, room-same, roomier-copies}
 use Rattle.sys_core.proofs.engine.Engine.make_copy_room.Goals as goal
 
 pub returns-in_err-copies-clause-more : goal.returns-in_err-copies-clause-more

@@ -10,10 +10,11 @@ use Rattle.meaning_system.specs.Writes.{prepared, writes}
 use Rattle.sys_core.proofs.Knowing.{none-of}
 use Rattle.sys_core.proofs.Preparing.{may-vote, refused-so, wrong-phase}
 use Rattle.sys_core.proofs.Refused.{leaves-shown, leaves-steps, refused-none-prepare}
-use Rattle.sys_core.proofs.Spelled.{as-spelled, err-as, nothing-spelled}
+use Rattle.sys_core.proofs.Spelled.{err-as, nothing-spelled}
 use Rattle.sys_core.proofs.Voted.{fault-steps, made-so, voted-shows, voted-steps, voted-writes}
 use Rattle.sys_core.specs.Steps.{Shows}
 use Rattle.sys_owners.specs.Owned.{journals_of}
+use Rattle.sys_records.proofs.Spelled.{as-spelled}
 use Rattle.sys_core.proofs.engine.Engine.prepare.Goals as goal
 
 -- there is no transaction

@@ -1,10 +1,10 @@
 use Rattle.std.proofs.Common.{refl}
 use Rattle.dl_base.specs.declared.step.Step.TheVariants as steps
 use Rattle.sys_core.proofs.Restored.{can-put-back, plan-last}
-use Rattle.sys_core.proofs.Roomy.{room-journals}
 use Rattle.sys_core.proofs.Stepped.{steps-over}
 use Rattle.sys_core.proofs.Stored.{no-room, room-ready}
 use Rattle.sys_owners.specs.Owned.{journals_of}
+use Rattle.sys_records.proofs.Roomy.{room-journals}
 use Rattle.sys_core.proofs.engine.Engine.restore_as.Goals as goal
 
 pub make_restoration-requires : goal.make_restoration-requires

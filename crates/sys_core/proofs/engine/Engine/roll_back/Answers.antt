@@ -13,8 +13,9 @@ use Rattle.sys_core.proofs.Knowing.{none-of, some-of}
 use Rattle.sys_core.proofs.Refused.{leaves-shown, leaves-steps, refused-none-rollback, refused-phase-rollback}
 use Rattle.sys_core.proofs.RollingBack.{aborts, aborts-taken, active-step, active-writes, beside-links, beside-self, prepared-step, prepared-writes, roll-back-fault, roll-back-kept, rolls-back, rolls-back-shown}
 use Rattle.sys_core.proofs.Seating.{seat-phase}
-use Rattle.sys_core.proofs.Spelled.{as-spelled, nothing-spelled}
+use Rattle.sys_core.proofs.Spelled.{nothing-spelled}
 use Rattle.sys_owners.specs.Owned.{folds_in, journals_of}
+use Rattle.sys_records.proofs.Spelled.{as-spelled}
 use Rattle.sys_core.proofs.engine.Engine.roll_back.Goals as goal
 
 -- a session without a transaction

@@ -11,9 +11,10 @@ use Rattle.meaning_areas.specs.Stands.{kept_of}
 use Rattle.meaning_system.specs.State.{kept_in, moved_of}
 use Rattle.meaning_system.specs.Writes.{whole_finish}
 use Rattle.sys_core.proofs.Finishing.{finish-settles, left-finishable, no-records, nothing-settled}
-use Rattle.sys_core.proofs.Spelled.{as-spelled, finish-spelled}
+use Rattle.sys_core.proofs.Spelled.{finish-spelled}
 use Rattle.sys_core.specs.Between.{IsBetween}
 use Rattle.sys_owners.specs.Owned.{folds_in, journals_of}
+use Rattle.sys_records.proofs.Spelled.{as-spelled}
 use Rattle.sys_core.proofs.engine.Engine.settle.Goals as goal
 
 pub finish-requires-clause-fits : goal.finish-requires-clause-fits

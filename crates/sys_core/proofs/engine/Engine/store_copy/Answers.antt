@@ -1,8 +1,8 @@
 use Rattle.dl_base.specs.declared.step.Step.TheVariants as steps
 use Rattle.sys_core.proofs.Stored.{can-store, no-room, room-ready}
-use Rattle.sys_core.proofs.Roomy.{room-journals}
 use Rattle.sys_core.proofs.Stepped.{steps-over}
 use Rattle.sys_owners.specs.Owned.{journals_of}
+use Rattle.sys_records.proofs.Roomy.{room-journals}
 use Rattle.sys_core.proofs.engine.Engine.store_copy.Goals as goal
 
 pub put_copy-requires-clause-ready : goal.put_copy-requires-clause-ready

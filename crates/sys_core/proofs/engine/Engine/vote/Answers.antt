@@ -1,10 +1,10 @@
 use Rattle.std.proofs.Common.{sym, subst}
 use Rattle.dl_areas.specs.Lists.{AreReady, Journals}
 use Rattle.sys_core.proofs.Entering.{can-enter, no-vote, roomy-votes}
-use Rattle.sys_core.proofs.Roomy.{room-journals}
 use Rattle.sys_core.proofs.Voted.{can-roomy}
 use Rattle.sys_core.proofs.Voting.{copies-of, files-of, files-voted, never-none, seat-found, there-in}
 use Rattle.sys_owners.specs.Owned.{journals_of}
+use Rattle.sys_records.proofs.Roomy.{room-journals}
 use Rattle.sys_core.proofs.engine.Engine.vote.Goals as goal
 
 pub unreachable-requires : goal.unreachable-requires

@@ -1,5 +1,0 @@
-use Rattle.std.proofs.Common.{rules}
-use Rattle.sql_expr.proofs.evaluation.unary_value.Goals as goal
-
-pub returns-in-Not : goal.returns-in-Not
-returns-in-Not c = search rules

@@ -1,0 +1,4 @@
+pub mod Asking
+pub mod Numbers
+pub mod Seeing
+pub mod Unary
