@@ -1,6 +1,6 @@
 // The system: each method is one call of it, but the lock's, which opens the folder first. What a call does is trusted: no
 // clause says it. That it failed, or was interrupted, is counted.
-ghost use Rattle.std.specs.Prelude.{◌≡◌, ◌≤◌, true, is_some, IfOk, Ok};
+ghost use Rattle.std.specs.Prelude.{◌≡◌, ◌≤◌, true, is_some, None, IfOk, Ok};
 ghost use Rattle.dl_host.specs.Blind.{blind, held_where};
 ghost use Rattle.dl_host.specs.Hosts.{count_after, is_fault, is_interruption, has_failed, was_interrupted, falls_short, with_faults};
 ghost use Rattle.dl_host.specs.Laws.{lawful_counted, blind_lawful};
@@ -77,6 +77,7 @@ impl Counts {
 impl<R: Files<File = File> + Print + Drop> Machine<R> {
     /// The current folder. Nothing is asked of it before its lock.
     pub fn new(rt: R) -> Machine<R>
+        ensures unlocked { result.folder ≡ None }
         ensures faults { result.counts.faults ≡ 0 }
         ensures interruptions { result.counts.interruptions ≡ 0 }
     {

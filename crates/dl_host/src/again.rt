@@ -1,5 +1,5 @@
 // Calls of the system, each made again where a signal came first.
-ghost use Rattle.std.specs.Prelude.{◌≡◌, ◌⊎◌, ◌+◌, ◌≤◌, ◌<◌, ◌^◌, [], true, List, ℕ, length, take, Some, IfOk, OnOk, OnErr};
+ghost use Rattle.std.specs.Prelude.{◌≡◌, ◌⊎◌, ◌+◌, ◌≤◌, ◌<◌, ◌^◌, [], true, false, List, ℕ, length, take, Some, IfOk, OnOk, OnErr};
 ghost use Rattle.std.specs.Option.{ForSome};
 ghost use Rattle.dl_base.specs.Outside.{ChangesOnly, Says, Torn, overwritten, portion, extended, FaultCounted};
 ghost use Rattle.dl_host.specs.Hosts.{Stays, NeverLeftAlone};
@@ -10,10 +10,13 @@ use dl_base::{Area, Failed};
 
 /// Locks the folder.
 pub fn locked<H: Host>(host: &mut H) -> Result<(), Failed>
+    requires once { (H.hold host.old).has_lock ≡ false }
     ensures locked { OnOk result ((H.hold host.new).has_lock ≡ true) }
+    ensures unlocked { OnErr result ((H.hold host.new).has_lock ≡ false) }
     ensures told { (H.outside host.new).told ≡ (H.outside host.old).told }
     ensures crash { Says [] (H.outside host.old) (H.outside host.new) }
     ensures stays { Stays (H.hold host.old) (H.hold host.new) }
+    ensures clean { OnOk result ((H.outside host.new).faults ≡ (H.outside host.old).faults) }
     ensures cause { OnErr result (FaultCounted (H.outside host.old) (H.outside host.new) ⊎ NeverLeftAlone (H.interruptions host.new)) }
 {
     'again: for _turn in 0..u64::MAX {
@@ -33,6 +36,7 @@ pub fn open_file<H: Host>(host: &mut H, area: Area) -> Result<H::File, Failed>
     ensures same { (H.outside host.new).reads area ≡ (H.outside host.old).reads area }
     ensures crash { ChangesOnly area ((H.outside host.old).image area) (H.outside host.old) (H.outside host.new) }
     ensures stays { Stays (H.hold host.old) (H.hold host.new) }
+    ensures clean { OnOk result ((H.outside host.new).faults ≡ (H.outside host.old).faults) }
     ensures cause { OnErr result (FaultCounted (H.outside host.old) (H.outside host.new) ⊎ NeverLeftAlone (H.interruptions host.new)) }
 {
     'again: for _turn in 0..u64::MAX {
@@ -52,6 +56,7 @@ pub fn sync_folder<H: Host>(host: &mut H, file: &H::File) -> Result<(), Failed>
     ensures same { (H.outside host.new).reads (H.area_of file.now) ≡ (H.outside host.old).reads (H.area_of file.now) }
     ensures crash { ChangesOnly (H.area_of file.now) ((H.outside host.old).image (H.area_of file.now)) (H.outside host.old) (H.outside host.new) }
     ensures stays { Stays (H.hold host.old) (H.hold host.new) }
+    ensures clean { OnOk result ((H.outside host.new).faults ≡ (H.outside host.old).faults) }
     ensures cause { OnErr result (FaultCounted (H.outside host.old) (H.outside host.new) ⊎ NeverLeftAlone (H.interruptions host.new)) }
 {
     'again: for _turn in 0..u64::MAX {
@@ -71,6 +76,7 @@ pub fn measured<H: Host>(host: &mut H, file: &H::File) -> Result<u64, Failed>
     ensures same { (H.outside host.new).reads (H.area_of file.now) ≡ (H.outside host.old).reads (H.area_of file.now) }
     ensures crash { ChangesOnly (H.area_of file.now) ((H.outside host.old).image (H.area_of file.now)) (H.outside host.old) (H.outside host.new) }
     ensures stays { Stays (H.hold host.old) (H.hold host.new) }
+    ensures clean { OnOk result ((H.outside host.new).faults ≡ (H.outside host.old).faults) }
     ensures cause { OnErr result (FaultCounted (H.outside host.old) (H.outside host.new) ⊎ NeverLeftAlone (H.interruptions host.new)) }
 {
     'again: for _turn in 0..u64::MAX {
@@ -98,6 +104,7 @@ pub fn write_some<H: Host>(
     ensures written { IfOk result (λ n. (H.outside host.new).reads (H.area_of file.now) ≡ overwritten at (take n bytes.now) ((H.outside host.old).reads (H.area_of file.now))) }
     ensures crash { ChangesOnly (H.area_of file.now) (Torn at (length bytes.now) ((H.outside host.old).image (H.area_of file.now))) (H.outside host.old) (H.outside host.new) }
     ensures stays { Stays (H.hold host.old) (H.hold host.new) }
+    ensures clean { OnOk result ((H.outside host.new).faults ≡ (H.outside host.old).faults) }
     ensures cause { OnErr result (FaultCounted (H.outside host.old) (H.outside host.new) ⊎ NeverLeftAlone (H.interruptions host.new)) }
 {
     'again: for _turn in 0..u64::MAX {
@@ -125,6 +132,7 @@ pub fn read_some<H: Host>(
     ensures same { (H.outside host.new).reads (H.area_of file.now) ≡ (H.outside host.old).reads (H.area_of file.now) }
     ensures crash { ChangesOnly (H.area_of file.now) ((H.outside host.old).image (H.area_of file.now)) (H.outside host.old) (H.outside host.new) }
     ensures stays { Stays (H.hold host.old) (H.hold host.new) }
+    ensures clean { OnOk result ((H.outside host.new).faults ≡ (H.outside host.old).faults) }
     ensures cause { OnErr result (FaultCounted (H.outside host.old) (H.outside host.new) ⊎ NeverLeftAlone (H.interruptions host.new)) }
 {
     'again: for _turn in 0..u64::MAX {
@@ -146,6 +154,7 @@ pub fn synced<H: Host>(host: &mut H, file: &H::File) -> Result<(), Failed>
     ensures same { (H.outside host.new).reads (H.area_of file.now) ≡ (H.outside host.old).reads (H.area_of file.now) }
     ensures crash { ChangesOnly (H.area_of file.now) ((H.outside host.old).image (H.area_of file.now)) (H.outside host.old) (H.outside host.new) }
     ensures stays { Stays (H.hold host.old) (H.hold host.new) }
+    ensures clean { OnOk result ((H.outside host.new).faults ≡ (H.outside host.old).faults) }
     ensures cause { OnErr result (FaultCounted (H.outside host.old) (H.outside host.new) ⊎ NeverLeftAlone (H.interruptions host.new)) }
 {
     'again: for _turn in 0..u64::MAX {
@@ -166,6 +175,7 @@ pub fn tell_some<H: Host>(host: &mut H, bytes: &[u8]) -> Result<usize, Failed>
     ensures told { IfOk result (λ n. (H.outside host.new).told ≡ extended (take n bytes.now) (H.outside host.old).told) }
     ensures crash { Says bytes.now (H.outside host.old) (H.outside host.new) }
     ensures stays { Stays (H.hold host.old) (H.hold host.new) }
+    ensures clean { OnOk result ((H.outside host.new).faults ≡ (H.outside host.old).faults) }
     ensures cause { OnErr result (FaultCounted (H.outside host.old) (H.outside host.new) ⊎ NeverLeftAlone (H.interruptions host.new)) }
 {
     'again: for _turn in 0..u64::MAX {

@@ -17,6 +17,7 @@ pub fn opened<H: Host>(host: &mut H, area: Area) -> Result<H::File, Failed>
     ensures same { (H.outside host.new).reads area ≡ (H.outside host.old).reads area }
     ensures crash { ChangesOnly area ((H.outside host.old).image area) (H.outside host.old) (H.outside host.new) }
     ensures stays { Stays (H.hold host.old) (H.hold host.new) }
+    ensures clean { OnOk result ((H.outside host.new).faults ≡ (H.outside host.old).faults) }
     ensures cause { OnErr result (FaultCounted (H.outside host.old) (H.outside host.new) ⊎ NeverLeftAlone (H.interruptions host.new)) }
 {
     match open_file(host, area) {
@@ -36,6 +37,7 @@ pub fn write_all<H: Host>(host: &mut H, file: &H::File, at: u64, bytes: &[u8]) -
     ensures written { OnOk result ((H.outside host.new).reads (H.area_of file.now) ≡ overwritten at bytes.now ((H.outside host.old).reads (H.area_of file.now))) }
     ensures crash { ChangesOnly (H.area_of file.now) (Torn at (length bytes.now) ((H.outside host.old).image (H.area_of file.now))) (H.outside host.old) (H.outside host.new) }
     ensures stays { Stays (H.hold host.old) (H.hold host.new) }
+    ensures clean { OnOk result ((H.outside host.new).faults ≡ (H.outside host.old).faults) }
     ensures cause { OnErr result (FaultCounted (H.outside host.old) (H.outside host.new) ⊎ NeverLeftAlone (H.interruptions host.new)) }
 {
     let mut done: usize = 0;
@@ -62,6 +64,7 @@ pub fn read_all<H: Host>(
     ensures same { (H.outside host.new).reads (H.area_of file.now) ≡ (H.outside host.old).reads (H.area_of file.now) }
     ensures crash { ChangesOnly (H.area_of file.now) ((H.outside host.old).image (H.area_of file.now)) (H.outside host.old) (H.outside host.new) }
     ensures stays { Stays (H.hold host.old) (H.hold host.new) }
+    ensures clean { OnOk result ((H.outside host.new).faults ≡ (H.outside host.old).faults) }
     ensures cause { OnErr result (FaultCounted (H.outside host.old) (H.outside host.new) ⊎ NeverLeftAlone (H.interruptions host.new) ⊎ 2 ^ 64 < at + length into.old) }
 {
     let mut done: usize = 0;
@@ -83,6 +86,7 @@ pub fn tell_all<H: Host>(host: &mut H, bytes: &[u8]) -> Result<(), Failed>
     ensures told { OnOk result ((H.outside host.new).told ≡ extended bytes.now (H.outside host.old).told) }
     ensures crash { Says bytes.now (H.outside host.old) (H.outside host.new) }
     ensures stays { Stays (H.hold host.old) (H.hold host.new) }
+    ensures clean { OnOk result ((H.outside host.new).faults ≡ (H.outside host.old).faults) }
     ensures cause { OnErr result (FaultCounted (H.outside host.old) (H.outside host.new) ⊎ NeverLeftAlone (H.interruptions host.new)) }
 {
     let mut done: usize = 0;

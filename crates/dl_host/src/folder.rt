@@ -21,12 +21,14 @@ pub struct FolderBench<H: Host + Drop> {
     slots: Slots<H::File>,
     is_locked: bool,
     faults: u64,
-    ghost locked: { is_locked ≡ true → (H.hold host).has_lock ≡ true },
+    ghost locked: { (H.hold host).has_lock ≡ is_locked },
     ghost held: { AreHeld H.File H.area_of (slot_of slots) (H.hold host) },
 }
 
 impl<H: Host + Drop> FolderBench<H> {
+    /// The bench over a host that has not locked its folder yet.
     pub fn new(host: H) -> FolderBench<H>
+        requires { (H.hold host).has_lock ≡ false }
         ensures host { result.host ≡ host }
         ensures count { result.faults ≡ 0 }
     {
@@ -61,9 +63,11 @@ impl<H: Host + Drop> FolderBench<H> {
     // Locks the folder, if it is not locked.
     fn enter(&mut self) -> Result<(), Failed>
         ensures locked { OnOk result (self.new.is_locked ≡ true) }
+        ensures once { self.old.is_locked ≡ true → self.new ≡ self.old }
         ensures told { (H.outside self.new.host).told ≡ (H.outside self.old.host).told }
         ensures crash { Says [] (H.outside self.old.host) (H.outside self.new.host) }
         ensures count { self.new.faults ≡ self.old.faults }
+        ensures clean { OnOk result ((H.outside self.new.host).faults ≡ (H.outside self.old.host).faults) }
         ensures cause { OnErr result (FaultCounted (H.outside self.old.host) (H.outside self.new.host) ⊎ NeverLeftAlone (H.interruptions self.new.host)) }
     {
         if self.is_locked {
@@ -82,9 +86,11 @@ impl<H: Host + Drop> FolderBench<H> {
     fn open(&mut self, area: Area) -> Result<(), Failed>
         ensures locked { OnOk result (self.new.is_locked ≡ true) }
         ensures open { OnOk result (IsSome (slot_of self.new.slots area)) }
+        ensures once { IsSome (slot_of self.old.slots area) → self.old.is_locked ≡ true → self.new.host ≡ self.old.host }
         ensures same { (H.outside self.new.host).reads area ≡ (H.outside self.old.host).reads area }
         ensures crash { ChangesOnly area ((H.outside self.old.host).image area) (H.outside self.old.host) (H.outside self.new.host) }
         ensures count { self.new.faults ≡ self.old.faults }
+        ensures clean { OnOk result ((H.outside self.new.host).faults ≡ (H.outside self.old.host).faults) }
         ensures cause { OnErr result (FaultCounted (H.outside self.old.host) (H.outside self.new.host) ⊎ NeverLeftAlone (H.interruptions self.new.host)) }
     {
         self.enter()?;
@@ -101,6 +107,7 @@ impl<H: Host + Drop> FolderBench<H> {
         ensures same { (H.outside self.new.host).reads area ≡ (H.outside self.old.host).reads area }
         ensures crash { ChangesOnly area ((H.outside self.old.host).image area) (H.outside self.old.host) (H.outside self.new.host) }
         ensures count { self.new.faults ≡ self.old.faults }
+        ensures clean { OnOk result ((H.outside self.new.host).faults ≡ (H.outside self.old.host).faults) }
         ensures cause { OnErr result (FaultCounted (H.outside self.old.host) (H.outside self.new.host) ⊎ NeverLeftAlone (H.interruptions self.new.host)) }
     {
         self.open(area)?;
@@ -116,6 +123,7 @@ impl<H: Host + Drop> FolderBench<H> {
         ensures same { (H.outside self.new.host).reads area ≡ (H.outside self.old.host).reads area }
         ensures crash { ChangesOnly area ((H.outside self.old.host).image area) (H.outside self.old.host) (H.outside self.new.host) }
         ensures count { self.new.faults ≡ self.old.faults }
+        ensures clean { OnOk result ((H.outside self.new.host).faults ≡ (H.outside self.old.host).faults) }
         ensures cause { OnErr result (FaultCounted (H.outside self.old.host) (H.outside self.new.host) ⊎ NeverLeftAlone (H.interruptions self.new.host) ⊎ 2 ^ 64 < at + length into.old) }
     {
         self.open(area)?;
@@ -131,6 +139,7 @@ impl<H: Host + Drop> FolderBench<H> {
         ensures written { OnOk result ((H.outside self.new.host).reads area ≡ overwritten at bytes.now ((H.outside self.old.host).reads area)) }
         ensures crash { ChangesOnly area (Torn at (length bytes.now) ((H.outside self.old.host).image area)) (H.outside self.old.host) (H.outside self.new.host) }
         ensures count { self.new.faults ≡ self.old.faults }
+        ensures clean { OnOk result ((H.outside self.new.host).faults ≡ (H.outside self.old.host).faults) }
         ensures cause { OnErr result (FaultCounted (H.outside self.old.host) (H.outside self.new.host) ⊎ NeverLeftAlone (H.interruptions self.new.host)) }
     {
         self.open(area)?;
@@ -145,6 +154,7 @@ impl<H: Host + Drop> FolderBench<H> {
         ensures same { (H.outside self.new.host).reads area ≡ (H.outside self.old.host).reads area }
         ensures crash { ChangesOnly area ((H.outside self.old.host).image area) (H.outside self.old.host) (H.outside self.new.host) }
         ensures count { self.new.faults ≡ self.old.faults }
+        ensures clean { OnOk result ((H.outside self.new.host).faults ≡ (H.outside self.old.host).faults) }
         ensures cause { OnErr result (FaultCounted (H.outside self.old.host) (H.outside self.new.host) ⊎ NeverLeftAlone (H.interruptions self.new.host)) }
     {
         self.open(area)?;
@@ -158,6 +168,7 @@ impl<H: Host + Drop> FolderBench<H> {
         ensures told { OnOk result ((H.outside self.new.host).told ≡ extended bytes.now (H.outside self.old.host).told) }
         ensures crash { Says bytes.now (H.outside self.old.host) (H.outside self.new.host) }
         ensures count { self.new.faults ≡ self.old.faults }
+        ensures clean { OnOk result ((H.outside self.new.host).faults ≡ (H.outside self.old.host).faults) }
         ensures cause { OnErr result (FaultCounted (H.outside self.old.host) (H.outside self.new.host) ⊎ NeverLeftAlone (H.interruptions self.new.host)) }
     {
         self.enter()?;
@@ -176,6 +187,7 @@ impl<H: Host + Drop> Bench for FolderBench<H> {
         ensures crash { ChangesOnly area ((H.outside self.old.host).image area) (with_faults self.old.faults (H.outside self.old.host)) (with_faults self.new.faults (H.outside self.new.host)) }
         ensures cause { OnErr result (FaultCounted (with_faults self.old.faults (H.outside self.old.host)) (with_faults self.new.faults (H.outside self.new.host))) }
         ensures exactly { self.new.faults ≡ count_after (is_err result) self.old.faults }
+        ensures clean { OnOk result ((H.outside self.new.host).faults ≡ (H.outside self.old.host).faults) }
         ensures by_host { OnErr result (FaultCounted (H.outside self.old.host) (H.outside self.new.host) ⊎ NeverLeftAlone (H.interruptions self.new.host)) }
     {
         let answer = self.length_of(area);
@@ -189,6 +201,7 @@ impl<H: Host + Drop> Bench for FolderBench<H> {
         ensures crash { ChangesOnly area ((H.outside self.old.host).image area) (with_faults self.old.faults (H.outside self.old.host)) (with_faults self.new.faults (H.outside self.new.host)) }
         ensures cause { OnErr result (FaultCounted (with_faults self.old.faults (H.outside self.old.host)) (with_faults self.new.faults (H.outside self.new.host))) }
         ensures exactly { self.new.faults ≡ count_after (is_err result) self.old.faults }
+        ensures clean { OnOk result ((H.outside self.new.host).faults ≡ (H.outside self.old.host).faults) }
         ensures by_host { OnErr result (FaultCounted (H.outside self.old.host) (H.outside self.new.host) ⊎ NeverLeftAlone (H.interruptions self.new.host) ⊎ 2 ^ 64 < at + length into.old) }
     {
         let answer = self.read_from(area, at, into);
@@ -202,6 +215,7 @@ impl<H: Host + Drop> Bench for FolderBench<H> {
         ensures crash { ChangesOnly area (Torn at (length bytes.now) ((H.outside self.old.host).image area)) (with_faults self.old.faults (H.outside self.old.host)) (with_faults self.new.faults (H.outside self.new.host)) }
         ensures cause { OnErr result (FaultCounted (with_faults self.old.faults (H.outside self.old.host)) (with_faults self.new.faults (H.outside self.new.host))) }
         ensures exactly { self.new.faults ≡ count_after (is_err result) self.old.faults }
+        ensures clean { OnOk result ((H.outside self.new.host).faults ≡ (H.outside self.old.host).faults) }
         ensures by_host { OnErr result (FaultCounted (H.outside self.old.host) (H.outside self.new.host) ⊎ NeverLeftAlone (H.interruptions self.new.host)) }
     {
         let answer = self.write_to(area, at, bytes);
@@ -214,6 +228,7 @@ impl<H: Host + Drop> Bench for FolderBench<H> {
         ensures crash { ChangesOnly area ((H.outside self.old.host).image area) (with_faults self.old.faults (H.outside self.old.host)) (with_faults self.new.faults (H.outside self.new.host)) }
         ensures cause { OnErr result (FaultCounted (with_faults self.old.faults (H.outside self.old.host)) (with_faults self.new.faults (H.outside self.new.host))) }
         ensures exactly { self.new.faults ≡ count_after (is_err result) self.old.faults }
+        ensures clean { OnOk result ((H.outside self.new.host).faults ≡ (H.outside self.old.host).faults) }
         ensures by_host { OnErr result (FaultCounted (H.outside self.old.host) (H.outside self.new.host) ⊎ NeverLeftAlone (H.interruptions self.new.host)) }
     {
         let answer = self.sync_of(area);
@@ -225,6 +240,7 @@ impl<H: Host + Drop> Bench for FolderBench<H> {
         ensures crash { Says bytes.now (with_faults self.old.faults (H.outside self.old.host)) (with_faults self.new.faults (H.outside self.new.host)) }
         ensures cause { OnErr result (FaultCounted (with_faults self.old.faults (H.outside self.old.host)) (with_faults self.new.faults (H.outside self.new.host))) }
         ensures exactly { self.new.faults ≡ count_after (is_err result) self.old.faults }
+        ensures clean { OnOk result ((H.outside self.new.host).faults ≡ (H.outside self.old.host).faults) }
         ensures by_host { OnErr result (FaultCounted (H.outside self.old.host) (H.outside self.new.host) ⊎ NeverLeftAlone (H.interruptions self.new.host)) }
     {
         let answer = self.tell(bytes);

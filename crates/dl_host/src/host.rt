@@ -1,5 +1,5 @@
 // What the areas and the script ask of the system, one call a method.
-ghost use Rattle.std.specs.Prelude.{◌≡◌, ◌+◌, ◌≤◌, ◌<◌, ◌^◌, Bool, true, List, ℕ, [], length, take, Option, Some, Err, IfOk, OnOk};
+ghost use Rattle.std.specs.Prelude.{◌≡◌, ◌+◌, ◌≤◌, ◌<◌, ◌^◌, Bool, true, false, List, ℕ, [], length, take, Option, Some, Err, IfOk, OnOk, OnErr};
 ghost use Rattle.dl_base.specs.declared.area.Area.{Area};
 ghost use Rattle.std.specs.Option.{ForSome};
 ghost use Rattle.dl_base.specs.Outside.{Outside, ChangesOnly, Says, Torn, overwritten, portion, extended, IsLawful};
@@ -37,7 +37,9 @@ pub trait Host {
 
     /// Locks the folder, where no other run has it.
     fn lock(&mut self) -> Result<(), Stop>
+        requires once { (hold self.old).has_lock ≡ false }
         ensures locked { OnOk result ((hold self.new).has_lock ≡ true) }
+        ensures unlocked { OnErr result ((hold self.new).has_lock ≡ false) }
         ensures told { (outside self.new).told ≡ (outside self.old).told }
         ensures crash { Says [] (outside self.old) (outside self.new) }
         ensures stays { Stays (hold self.old) (hold self.new) }

@@ -1,5 +1,5 @@
 // The script, from a stream.
-ghost use Rattle.std.specs.Prelude.{◌≡◌, ◌⊎◌, ◌<◌, ◌≤◌, [], List, ℕ, length, take, is_err, Some, IfOk, OnErr};
+ghost use Rattle.std.specs.Prelude.{◌≡◌, ◌⊎◌, ◌<◌, ◌≤◌, [], List, ℕ, length, take, is_err, Some, IfOk, OnOk, OnErr};
 ghost use Rattle.dl_base.specs.Sources.{Took, RoseFrom};
 ghost use Rattle.dl_host.specs.Hosts.{count_after, NeverLeftAlone};
 
@@ -31,6 +31,7 @@ impl<R: Reader + Drop> Source for InputSource<R> {
         ensures bytes { IfOk result (λ n. Took (take n into.new) (R.rest self.old.reader) (R.rest self.new.reader)) }
         ensures end { IfOk result (λ n. n ≡ 0 → 0 < length into.old → (left : List ℕ) → R.rest self.old.reader ≡ Some left → left ≡ []) }
         ensures never_falls { self.old.faults ≤ self.new.faults }
+        ensures clean { OnOk result (R.faults self.new.reader ≡ R.faults self.old.reader) }
         ensures cause { OnErr result (RoseFrom self.old.faults self.new.faults) }
         ensures exactly { self.new.faults ≡ count_after (is_err result) self.old.faults }
         ensures by_reader { OnErr result (RoseFrom (R.faults self.old.reader) (R.faults self.new.reader) ⊎ NeverLeftAlone (R.interruptions self.new.reader)) }
@@ -48,6 +49,7 @@ fn read<R: Reader>(reader: &mut R, into: &mut [u8]) -> Result<usize, Failed>
     ensures count { IfOk result (λ n. n ≤ length into.old) }
     ensures bytes { IfOk result (λ n. Took (take n into.new) (R.rest reader.old) (R.rest reader.new)) }
     ensures end { IfOk result (λ n. n ≡ 0 → 0 < length into.old → (left : List ℕ) → R.rest reader.old ≡ Some left → left ≡ []) }
+    ensures clean { OnOk result (R.faults reader.new ≡ R.faults reader.old) }
     ensures cause { OnErr result (RoseFrom (R.faults reader.old) (R.faults reader.new) ⊎ NeverLeftAlone (R.interruptions reader.new)) }
 {
     'again: for _turn in 0..u64::MAX {

@@ -5,7 +5,9 @@ use Rattle.std.proofs.lemmas.List.Elements.{All-push}
 use Rattle.std.specs.Cmp.{Equal-is, unsigned_tied}
 use Rattle.std.specs.Cmp.Lexicographic.{slice_cmp}
 use Rattle.std.specs.FinMap.{nat_cmp-IsAntisymmetric, slice_cmp-IsAntisymmetric}
+use Rattle.std.specs.Fmt.{digits}
 use Rattle.std.specs.Ordering.{eq_by_cmp, nat_cmp}
+use Rattle.sha2.specs.Sha256.{sha256, hash_after, compress, rounds, schedule, first_words, digest_bytes}
 use Rattle.meaning_examples.specs.Maps as maps
 use Rattle.dl_base.specs.declared.answer.Answer.{Answer}
 use Rattle.dl_base.specs.declared.answer.Answer.TheVariants as answers
@@ -46,6 +48,8 @@ use Rattle.meaning_examples.specs.Stands.{AreDrawn, Compares, IsStand, Stored, i
 use Rattle.meaning_examples.specs.Apart.{ShareNoPath, has_key, has_path}
 use Rattle.meaning_examples.specs.Keyed.{is_at}
 use Rattle.meaning_examples.specs.Settling.{Copy, Moved, settle_one}
+use Rattle.dl_token.specs.Hmac.{hmac}
+use Rattle.dl_token.specs.Tokens.{mac, token, verdict}
 use Rattle.meaning_tables.specs.Tables.{Rows, Tables, new_table, table_of, with_table, with_inserted}
 use Rattle.meaning_examples.specs.Claims.{by_evaluated, with_names}
 use Rattle.meaning_examples.specs.Machine.{step, stated, start}
@@ -358,6 +362,41 @@ doomed_claim-answers = refl
 doomed_claim-recovers : Recovers doomed_claim
 unfolding doomed_claim up_to_4 step settle_one writes
 doomed_claim-recovers = refl
+
+-- Resolve beside sessions: what they have, decided or prepared, is neither ended nor counted, and goes on
+resolved_beside_sessions : List Act
+resolved_beside_sessions = up_to_4 ++ begins 2 ∷ says 2 (put_null 5) ∷ does (steps.Prepare 2) ∷ begins 3 ∷ does (steps.Prepare 3) ∷ does (steps.Prepare 1) ∷ does (steps.Decide 1) ∷ does steps.CrashDatabase
+    ∷ begins 1 ∷ says 1 (put_null 7) ∷ does (steps.Prepare 1) ∷ does (steps.Decide 1) ∷ begins 2 ∷ says 2 (put_null 8) ∷ does (steps.Prepare 2) ∷ does steps.Resolve ∷ does (steps.Finish 1) ∷ does (steps.Decide 2) ∷ does (steps.Finish 2) ∷ []
+
+resolved_beside_sessions-answers : all_answers first resolved_beside_sessions ≡ told_4 ++ answers.Begun (tx 3) ∷ answers.Changed 1 ∷ answers.Done ∷ answers.Begun (tx 4) ∷ answers.Done ∷ answers.Done ∷ answers.Committed 2 ∷ answers.Done
+    ∷ answers.Begun (2 ^ 33 + 1) ∷ answers.Changed 1 ∷ answers.Done ∷ answers.Committed 3 ∷ answers.Begun (2 ^ 33 + 2) ∷ answers.Changed 1 ∷ answers.Done ∷ answers.Resolved 1 2 ∷ answers.Done ∷ answers.Committed 4 ∷ answers.Done ∷ []
+unfolding resolved_beside_sessions up_to_4 step settle_one
+resolved_beside_sessions-answers = refl
+
+resolved_beside_sessions-recovers : Recovers resolved_beside_sessions
+unfolding resolved_beside_sessions up_to_4 step settle_one writes
+resolved_beside_sessions-recovers = refl
+
+-- the clock behind stops: of the manager, of the database, and of both with Resolve
+abbrev moment_behind : List Step → ℕ
+moment_behind stopped = (last_state first (does (steps.Tick 100) ∷ map does stopped)).moment
+
+clock_behind_stops : map moment_behind ((steps.CrashManager ∷ []) ∷ (steps.CrashDatabase ∷ []) ∷ (steps.CrashDatabase ∷ steps.CrashManager ∷ steps.Resolve ∷ []) ∷ []) ≡ 100 ∷ 100 ∷ 100 ∷ []
+unfolding step
+clock_behind_stops = refl
+
+-- so a token that has expired is not good again
+abbrev reads_with_token : Act
+reads_with_token = file ann (whats.Read path (Some (token given.key path (link 2) 60)))
+
+expired_token : List Act
+expired_token = file ann (whats.Create path (codes "one")) ∷ alone 1 (make o4) ++ alone 1 (put 1 path) ++ reads_with_token ∷ does (steps.Tick 61)
+    ∷ reads_with_token ∷ does steps.CrashManager ∷ reads_with_token ∷ does steps.CrashDatabase ∷ reads_with_token ∷ []
+
+expired_token-answers : all_answers first expired_token ≡ answers.Done ∷ told 1 answers.Done 1 ++ told 2 (answers.Changed 1) 2 ++ answers.Bytes (codes "one") ∷ answers.Done ∷ forbids (link 2) (whys.Expired 60)
+    ∷ answers.Done ∷ forbids (link 2) (whys.Expired 60) ∷ answers.Done ∷ forbids (link 2) (whys.Expired 60) ∷ []
+unfolding expired_token step settle_one verdict mac hmac sha256 hash_after compress rounds schedule first_words digest_bytes digits
+expired_token-answers = refl
 
 -- a restore of a backup is refused while another file stands in the way
 restored_backup : List Act

@@ -1,5 +1,9 @@
+mod Clock
+mod Entries
 mod Held
 mod Lasting
 mod Promised
+mod Resolving
 mod Staying
+mod Stopped
 mod Unused

@@ -1,6 +1,8 @@
 // The conditions of ON and WHERE: their types, and whether they are true of a row.
+ghost use Rattle.std.specs.Prelude.{◌≡◌, is_err, true, Err, OnErr};
 ghost use Rattle.meaning_sql.specs.Faults.{Computes, try_map, option_list};
 ghost use Rattle.meaning_sql.specs.Conditions as meant;
+ghost use Rattle.meaning_sql.specs.Types.{type_of};
 
 use crate::bound::Bound;
 use crate::checking::check_in;
@@ -10,9 +12,12 @@ use meaning_sql::{AggregateScope, Columns, Context, SqlType};
 use std::alloc::Global;
 
 /// The type of a condition, which is a truth over columns and no aggregate: else its first breach, `NoColumn`, `Ambiguous` or
-/// `TypeFault`, or `Memory`.
+/// `TypeFault`, or `Memory` in the place of a breach inside it; that it is no truth is always told.
+#[tactic(auto, using(crate::proofs::Steps::refused_first))]
 pub fn condition_type(columns: &Columns, condition: &Expr) -> Result<SqlType, SqlFault>
-    ensures { Computes (λ t. t) result (meant.condition_type columns.now condition.now) }
+    ensures of_type { Computes (λ t. t) result (meant.condition_type columns.now condition.now) }
+    ensures accepted { OnErr result (is_err (meant.condition_type columns.now condition.now) ≡ true) }
+    ensures memory { result ≡ Err SqlFault.Memory → is_err (type_of columns.now AggregateScope.Row condition.now) ≡ true }
 {
     let t = check_in(condition, columns, &AggregateScope::Row)?;
     if is_truth(t) {
@@ -22,9 +27,12 @@ pub fn condition_type(columns: &Columns, condition: &Expr) -> Result<SqlType, Sq
     }
 }
 
-/// The type of the condition of WHERE, where there is one.
+/// The type of the condition of WHERE, where there is one, or its first breach, as `condition_type`.
+#[tactic(auto, using(crate::proofs::Steps::refused_first))]
 pub fn filter_type(columns: &Columns, filter: &Option<Expr>) -> Result<Option<SqlType>, SqlFault>
-    ensures { Computes (λ t. option_list t) result (try_map (meant.condition_type columns.now) (option_list filter.now)) }
+    ensures of_type { Computes (λ t. option_list t) result (try_map (meant.condition_type columns.now) (option_list filter.now)) }
+    ensures accepted { OnErr result (is_err (try_map (meant.condition_type columns.now) (option_list filter.now)) ≡ true) }
+    ensures memory { result ≡ Err SqlFault.Memory → is_err (try_map (type_of columns.now AggregateScope.Row) (option_list filter.now)) ≡ true }
 {
     match filter {
         Some(condition) => Ok(Some(condition_type(columns, condition)?)),

@@ -6,6 +6,7 @@ use Rattle.std.proofs.lemmas.Bool.Decides.{nat_tests}
 use Rattle.std.proofs.lemmas.Bool.{ltb-true}
 use Rattle.meaning_sql.specs.Operators.{fits_i64, whole}
 use Rattle.dl_base.specs.declared.sql_fault.SqlFault.TheVariants as faults
+use Rattle.dl_base.specs.declared.value.Value.{Value}
 use Rattle.dl_base.specs.declared.value.Value.TheVariants as values
 
 fits_here : (z : ℤ) → FitsSigned w64 z → fits_i64 z ≡ true
@@ -25,5 +26,12 @@ whole_fits z h = ap (λ (b : Bool). cond b (Ok (values.Int z)) (Err faults.Overf
 
 pub whole_over : (z : ℤ) → (FitsSigned w64 z → ⊥) → whole z ≡ Err faults.Overflow
 whole_over z h = ap (λ (b : Bool). cond b (Ok (values.Int z)) (Err faults.Overflow)) (fits_not z h)
+
+by_test : (b : Bool) (x : Value) → cond b (Ok x) (Err faults.Overflow) ≡ Err faults.Memory → ⊥
+by_test true x h = absurd (cc)
+by_test false x h = absurd (cc)
+
+pub whole_or_overflow : (z : ℤ) → whole z ≡ Err faults.Memory → ⊥
+whole_or_overflow z h = by_test (fits_i64 z) (values.Int z) h
 
 pub ruleset fitting = (whole_fits, whole_over)

@@ -1,5 +1,5 @@
 // What DLVALUE makes, and what the accessors of a datalink show.
-ghost use Rattle.std.specs.Prelude.{◌≡◌, Ok, length};
+ghost use Rattle.std.specs.Prelude.{◌≡◌, Ok};
 ghost use Rattle.meaning_sql.specs.Datalinks as meaning;
 ghost use Rattle.meaning_sql.specs.Faults.{Computes};
 

@@ -1,5 +1,5 @@
 // What operators make of values.
-ghost use Rattle.std.specs.Prelude.{◌≡◌, Ok, true};
+ghost use Rattle.std.specs.Prelude.{◌≡◌, ◌≢◌, Err, Ok, true};
 ghost use Rattle.meaning_sql.specs.Operators as meaning;
 ghost use Rattle.sql_operators.specs.Asking.{Asked, Decided, is_arithmetic};
 
@@ -93,9 +93,10 @@ fn arithmetic(op: Op, x: &Value, y: &Value) -> Result<Value, SqlFault>
     }
 }
 
-#[tactic(auto, unfolding(meaning_sql::specs::Operators::negated))]
+#[tactic(auto, using(crate::proofs::Numbers::whole_or_overflow), unfolding(meaning_sql::specs::Operators::negated))]
 pub(crate) fn negated(x: &Value) -> Result<Value, SqlFault>
-    ensures { result ≡ meaning.negated x.now }
+    ensures value { result ≡ meaning.negated x.now }
+    ensures memory { result ≢ Err SqlFault.Memory }
 {
     match x {
         Value::Int(z) => opposite(*z),

@@ -24,7 +24,7 @@ impl<'a> Seen<'a> {
         }
     }
 
-    /// The value, to be kept: one that stands somewhere is copied.
+    /// The value, to be kept: one that stands somewhere is copied, for which memory is taken.
     pub fn into_value(self) -> Result<Value, Memory>
         ensures { IfOk result (λ v. v ≡ seen self.entry) }
     {

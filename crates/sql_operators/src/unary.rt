@@ -1,7 +1,7 @@
 // Operators of one operand.
-ghost use Rattle.std.specs.Prelude.{◌≡◌};
+ghost use Rattle.std.specs.Prelude.{◌≡◌, Err, true};
 ghost use Rattle.meaning_sql.specs.Faults.{Computes};
-ghost use Rattle.sql_operators.specs.Unary.{unary_value};
+ghost use Rattle.sql_operators.specs.Unary.{is_accessor, unary_value};
 
 use crate::datalinks::accessed;
 use crate::operator::negated;
@@ -13,7 +13,9 @@ use std::alloc::Global;
 /// An operator of one operand.
 #[derive(Clone, Copy)]
 pub enum Unary {
+    /// NOT of a truth.
     Not,
+    /// The sign before a number.
     Minus,
     /// IS NULL where it holds true, IS NOT NULL where it holds false.
     IsNull(bool),
@@ -30,7 +32,8 @@ pub fn unary_value(
     under: Option<Options>,
     x: &Value,
 ) -> Result<Value, SqlFault>
-    ensures { Computes (λ v. v) result (unary_value context.entry.now under op x.now) }
+    ensures value { Computes (λ v. v) result (unary_value context.entry.now under op x.now) }
+    ensures memory { result ≡ Err SqlFault.Memory → is_accessor op ≡ true }
 {
     match op {
         Unary::Not => Ok(of_truth(not3(truth_of(x)))),

@@ -1,5 +1,5 @@
 // A restore over the owners of the areas: what is made for it, and how it is written.
-ghost use Rattle.std.specs.Prelude.{◌≡◌, ◌≢◌, ◌+◌, ◌≤◌, ℕ, Err, IfOk, None, OnOk, Some, length, true};
+ghost use Rattle.std.specs.Prelude.{◌≡◌, ◌≢◌, ◌⊎◌, ◌+◌, ◌^◌, ◌<◌, ◌≤◌, ℕ, Err, IfOk, None, OnErr, OnOk, Some, length, nat_le};
 ghost use Rattle.std.specs.Result.{result_err};
 ghost use Rattle.db_changes.specs.Handles.{NewLast};
 ghost use Rattle.db_replay.specs.Applying.{new_by, new_in};
@@ -190,10 +190,12 @@ fn commit_for(
     }
 }
 
-// The number of the next commit, which may make the tables that handles make.
+// The number of the next commit, which may make the tables that handles make. The error comes exactly where there is no such number, or
+// they make more than 256 tables. It takes no memory.
 fn number_for(owners: &Owners, handles: &List<Change>) -> Result<u64, Memory>
     ensures number { IfOk result (λ number. number ≡ length owners.now.store.rows.commits + 1) }
     ensures few { OnOk result (new_in handles.now ≤ most_tables) }
+    ensures memory { OnErr result (2 ^ 64 ≤ length owners.now.store.rows.commits + 1 ⊎ most_tables < new_in handles.now) }
 {
     let Some(number) = owners.store.commits().checked_add(1) else {
         return Err(Memory);
@@ -206,7 +208,7 @@ fn number_for(owners: &Owners, handles: &List<Change>) -> Result<u64, Memory>
 
 // Whether a commit may make the tables that handles make.
 fn are_few(handles: &List<Change>) -> bool
-    ensures { result ≡ true → new_in handles.now ≤ most_tables }
+    ensures { result ≡ nat_le (new_in handles.now) most_tables }
 {
     let mut left = MOST_TABLES;
     for change in handles.as_slice() {

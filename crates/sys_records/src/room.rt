@@ -1,5 +1,5 @@
 // Room for what is written later without memory.
-ghost use Rattle.std.specs.Prelude.{◌≡◌, ◌+◌, ◌≤◌, IfOk, OnOk};
+ghost use Rattle.std.specs.Prelude.{◌≡◌, ◌+◌, ◌^◌, ◌≤◌, IfOk, OnErr, OnOk};
 ghost use Rattle.sys_records.specs.Room.{HaveMoreRoom};
 ghost use Rattle.sys_seats.specs.Seats.{all_of, gives_of, votes_of};
 
@@ -20,7 +20,8 @@ pub(crate) fn make_room(owners: &mut Owners, seats: &Seats, gives: usize) -> Res
 }
 
 fn votes_with_one(seats: &Seats) -> Result<u64, Memory>
-    ensures { IfOk result (λ n. n ≡ all_of votes_of seats.now + 1) }
+    ensures sum { IfOk result (λ n. n ≡ all_of votes_of seats.now + 1) }
+    ensures past { OnErr result (2 ^ 64 ≤ all_of votes_of seats.now + 1) }
 {
     let Some(votes) = seats.votes() else {
         return Err(Memory);
@@ -34,7 +35,8 @@ fn votes_with_one(seats: &Seats) -> Result<u64, Memory>
 /// How many links the prepared and decided transactions give, together with so many more, each of which may want a copy. The error, where
 /// that is past 2^64 - 1, counts as want of memory. It takes no memory, and costs a look at each transaction.
 pub fn gives_with(seats: &Seats, more: usize) -> Result<u64, Memory>
-    ensures { IfOk result (λ n. n ≡ all_of gives_of seats.now + more) }
+    ensures sum { IfOk result (λ n. n ≡ all_of gives_of seats.now + more) }
+    ensures past { OnErr result (2 ^ 64 ≤ all_of gives_of seats.now + more) }
 {
     let Some(gives) = seats.gives() else {
         return Err(Memory);

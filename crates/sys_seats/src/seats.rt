@@ -1,5 +1,5 @@
 // The transactions that have not ended.
-ghost use Rattle.std.specs.Prelude.{◌≡◌, ℕ, IfSome, OnOk, OnErr, false};
+ghost use Rattle.std.specs.Prelude.{◌≡◌, ◌≤◌, ◌^◌, ℕ, IfNone, IfSome, OnOk, OnErr, false};
 ghost use Rattle.std.specs.BTreeMap.{IsOrdered, get};
 ghost use Rattle.std.specs.FinMap as maps;
 ghost use Rattle.std.specs.Option.{option_copied, option_map};
@@ -86,7 +86,8 @@ impl Seats {
 
     /// How many commits the prepared ones may make; None past 2^64 - 1. It costs a look at each transaction.
     pub fn votes(&self) -> Option<u64>
-        ensures { IfSome result (λ n. n ≡ all_of votes_of self.now) }
+        ensures sum { IfSome result (λ n. n ≡ all_of votes_of self.now) }
+        ensures past { IfNone result (2 ^ 64 ≤ all_of votes_of self.now) }
     {
         votes_in(&self.entries)
     }
@@ -94,7 +95,8 @@ impl Seats {
     /// How many links the prepared and decided ones give, each of which may want a copy; None past 2^64 - 1. It costs a look at each
     /// transaction.
     pub fn gives(&self) -> Option<u64>
-        ensures { IfSome result (λ n. n ≡ all_of gives_of self.now) }
+        ensures sum { IfSome result (λ n. n ≡ all_of gives_of self.now) }
+        ensures past { IfNone result (2 ^ 64 ≤ all_of gives_of self.now) }
     {
         gives_in(&self.entries)
     }
@@ -151,6 +153,7 @@ fn set_claim(entries: &mut BTreeMap<u64, Seat>, tx: u64, claim: SeatClaim)
 // How many commits may be made; None past 2^64 - 1.
 fn votes_in(entries: &BTreeMap<u64, Seat>) -> Option<u64>
     ensures sum { IfSome result (λ n. n ≡ sum_of votes_of entries.now.entries) }
+    ensures past { IfNone result (2 ^ 64 ≤ sum_of votes_of entries.now.entries) }
     ensures ordered { IsOrdered nat_cmp entries.now }
 {
     let mut sum: u64 = 0;
@@ -173,6 +176,7 @@ fn voted_by(seat: &Seat) -> u64
 // How many links are given; None past 2^64 - 1.
 fn gives_in(entries: &BTreeMap<u64, Seat>) -> Option<u64>
     ensures sum { IfSome result (λ n. n ≡ sum_of gives_of entries.now.entries) }
+    ensures past { IfNone result (2 ^ 64 ≤ sum_of gives_of entries.now.entries) }
     ensures ordered { IsOrdered nat_cmp entries.now }
 {
     let mut sum: u64 = 0;

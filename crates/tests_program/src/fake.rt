@@ -1,6 +1,6 @@
 //! A folder and a stream in memory, which tell their content, and give what a system may give: short calls, interrupted
 //! ones, failing ones, no more room. They show that the clauses of `Host` and `Reader` can be met with content.
-ghost use Rattle.std.specs.Prelude.{◌≡◌, ◌==◌, ◌&&◌, ◌≤◌, nat_lt, true, Err};
+ghost use Rattle.std.specs.Prelude.{◌≡◌, ◌==◌, ◌&&◌, ◌≤◌, nat_lt, true, false, IfOk, Err};
 ghost use Rattle.dl_host.specs.Hosts.{with_faults, count_after, is_fault, is_interruption, has_failed, was_interrupted};
 ghost use Rattle.dl_host.specs.Laws.{lawful_counted};
 ghost use Rattle.dl_bench.specs.Tallies.{faults};
@@ -81,7 +81,9 @@ pub struct FakeHost {
 
 impl FakeHost {
     /// A folder with no files.
-    pub fn new(alloc: Global, plan: Plan) -> Result<FakeHost, Memory> {
+    pub fn new(alloc: Global, plan: Plan) -> Result<FakeHost, Memory>
+        ensures { IfOk result (λ host. host.is_locked ≡ false) }
+    {
         Ok(FakeHost {
             bench: MemoryBench::new(alloc, List::empty(alloc), None)?,
             plan,

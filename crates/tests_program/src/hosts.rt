@@ -1,4 +1,6 @@
 // Whole runs over the folder's logic, on a host in memory.
+ghost use Rattle.std.specs.Prelude.{◌≡◌, false};
+
 use crate::fake::{FakeHost, FakeReader, Plan};
 use crate::runs::{first_record, openings, words_of};
 use datalinks::{Status, single};
@@ -79,7 +81,9 @@ fn run(alloc: Global, plan: Plan, fails: bool) -> Option<End> {
     end
 }
 
-fn end_on(alloc: Global, words: &[Text], host: FakeHost, fails: bool) -> End {
+fn end_on(alloc: Global, words: &[Text], host: FakeHost, fails: bool) -> End
+    requires { host.is_locked ≡ false }
+{
     let mut source = InputSource::new(FakeReader::new(script(), fails));
     let (status, after) = single(alloc, words, &mut source, FolderBench::new(host));
     let end = end_of(status, after.host());

@@ -11,5 +11,5 @@ again-init g c =
 pub again-preserved : goal.again-preserved
 again-preserved g c =
     let o = g.H.Host.outside c.args.host.now in
-    undone_on c.again.invariant c.in-Err-Interrupted.field-0-is c.in-Err-Interrupted.ensures.interruptions (omega arith) c.open.ensures.same
+    undone_on c.again.invariant c.in-Err-Interrupted.field-0-is c.in-Err-Interrupted.ensures.faults c.in-Err-Interrupted.ensures.interruptions (omega arith) c.open.ensures.same
     (touches_still c.args.area (o.image c.args.area) o _ _ c.again.invariant.crash c.open.ensures.crash) c.open.ensures.stays

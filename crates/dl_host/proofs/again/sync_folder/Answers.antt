@@ -13,5 +13,5 @@ pub again-preserved : goal.again-preserved
 again-preserved g c =
     let area = g.H.Host.area_of c.args.file.now in
     let o = g.H.Host.outside c.args.host.now in
-    undone_on c.again.invariant c.in-Err-Interrupted.field-0-is c.in-Err-Interrupted.ensures.interruptions (omega arith) c.sync_folder.ensures.same
+    undone_on c.again.invariant c.in-Err-Interrupted.field-0-is c.in-Err-Interrupted.ensures.faults c.in-Err-Interrupted.ensures.interruptions (omega arith) c.sync_folder.ensures.same
     (touches_still area (o.image area) o _ _ c.again.invariant.crash c.sync_folder.ensures.crash) c.sync_folder.ensures.stays

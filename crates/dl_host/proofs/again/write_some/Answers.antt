@@ -16,5 +16,5 @@ again-preserved g c =
     let area = g.H.Host.area_of c.args.file.now in
     let o = g.H.Host.outside c.args.host.now in
     let n = length c.args.bytes.now in
-    undone_on {Q = Torn c.args.at n (o.image area)} c.again.invariant c.in-Err-Interrupted.field-0-is c.in-Err-Interrupted.ensures.interruptions (omega arith) (c.in-Err-Interrupted.ensures.again (cc))
+    undone_on {Q = Torn c.args.at n (o.image area)} c.again.invariant c.in-Err-Interrupted.field-0-is c.in-Err-Interrupted.ensures.faults c.in-Err-Interrupted.ensures.interruptions (omega arith) (c.in-Err-Interrupted.ensures.again (cc))
     (touches_on area c.args.at n c.args.at n o _ _ (omega arith) (omega arith) c.again.invariant.crash c.write_at.ensures.crash) c.write_at.ensures.stays

@@ -25,6 +25,7 @@ more-preserved g c =
       filled = λ bytes is. filled_rest c.args.at c.more.done c.in-Ok.count into part bytes c.more.invariant.within long' c.in-Ok.ensures.count.1 (c.more.invariant.filled bytes is) (c.in-Ok.ensures.bytes bytes (c.more.invariant.same ∙ is) ∙ ap (λ (k : ℕ). portion k c.in-Ok.count bytes) c.in-Some.ensures.1);
       same = c.read_some.ensures.same ∙ c.more.invariant.same;
       crash = touches_still area (o.image area) o m n c.more.invariant.crash c.read_some.ensures.crash;
+      clean = c.in-Ok.ensures.clean ∙ c.more.invariant.clean;
       locked = c.read_some.ensures.stays.lock c.more.invariant.locked;
       stays = stays_then _ _ _ c.more.invariant.stays c.read_some.ensures.stays;
     }

@@ -14,6 +14,7 @@ invariant-more g l =
       filled : (c : List ℕ) → o.reads area ≡ Some c → take l.done l.into ≡ portion l.at l.done c;
       same : n.reads area ≡ o.reads area;
       crash : ChangesOnly area (o.image area) o n;
+      clean : n.faults ≡ o.faults;
       locked : (g.H.Host.hold l.host).has_lock ≡ true;
       stays : Stays (g.H.Host.hold l.initial.host) (g.H.Host.hold l.host);
     }

@@ -1,4 +1,4 @@
-use Rattle.std.proofs.Common.{List, ℕ}
+use Rattle.std.proofs.Common.{◌∙◌, List, ℕ}
 use Rattle.dl_host.proofs.Loops.{said_rest, told_rest, within_rest, stays_then}
 use Rattle.dl_host.proofs.calls.tell_all.Goals as goal
 
@@ -16,6 +16,7 @@ more-preserved g c =
       within = within_rest c.more.done c.in-Ok.count bytes c.more.invariant.within c.in-Ok.ensures.count.1;
       told = told_rest bytes c.more.done c.in-Ok.count o.told m.told n.told c.more.invariant.told c.in-Ok.ensures.told;
       crash = said_rest bytes c.more.done o m n c.more.invariant.told c.more.invariant.crash c.tell_some.ensures.crash;
+      clean = c.in-Ok.ensures.clean ∙ c.more.invariant.clean;
       locked = c.tell_some.ensures.stays.lock c.more.invariant.locked;
       stays = stays_then _ _ _ c.more.invariant.stays c.tell_some.ensures.stays;
     }

@@ -11,6 +11,7 @@ invariant-more g l =
       within : l.done ≤ length l.bytes;
       told : n.told ≡ extended (take l.done l.bytes) o.told;
       crash : Says l.bytes o n;
+      clean : n.faults ≡ o.faults;
       locked : (g.H.Host.hold l.host).has_lock ≡ true;
       stays : Stays (g.H.Host.hold l.initial.host) (g.H.Host.hold l.host);
     }

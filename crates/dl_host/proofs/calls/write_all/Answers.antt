@@ -1,4 +1,4 @@
-use Rattle.std.proofs.Common.{List, ℕ}
+use Rattle.std.proofs.Common.{◌∙◌, List, ℕ}
 use Rattle.dl_host.proofs.Loops.{touches_rest, written_rest, within_rest, stays_then}
 use Rattle.dl_host.proofs.calls.write_all.Goals as goal
 
@@ -18,6 +18,7 @@ more-preserved g c =
       within = within_rest c.more.done c.in-Ok.count bytes c.more.invariant.within c.in-Ok.ensures.count.1;
       written = written_rest c.args.at c.more.done c.in-Ok.count bytes (o.reads area) (m.reads area) (n.reads area) c.more.invariant.within c.requires.begins c.more.invariant.written c.in-Ok.ensures.written;
       crash = touches_rest area c.args.at c.more.done bytes o m n c.more.invariant.within c.more.invariant.crash c.write_some.ensures.crash;
+      clean = c.in-Ok.ensures.clean ∙ c.more.invariant.clean;
       locked = c.write_some.ensures.stays.lock c.more.invariant.locked;
       stays = stays_then _ _ _ c.more.invariant.stays c.write_some.ensures.stays;
     }

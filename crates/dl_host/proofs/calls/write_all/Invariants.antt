@@ -12,6 +12,7 @@ invariant-more g l =
       within : l.done ≤ length l.bytes;
       written : n.reads area ≡ overwritten l.at (take l.done l.bytes) (o.reads area);
       crash : ChangesOnly area (Torn l.at (length l.bytes) (o.image area)) o n;
+      clean : n.faults ≡ o.faults;
       locked : (g.H.Host.hold l.host).has_lock ≡ true;
       stays : Stays (g.H.Host.hold l.initial.host) (g.H.Host.hold l.host);
     }
