@@ -1,5 +1,5 @@
 -- Entries of a map from numbers: each is found under its key, and what is found is one of them.
-use Rattle.std.proofs.Common.{◌≡◌, ◌≢◌, inl, inr, ⊎_elim, ℕ, List, [], ◌∷◌, Bool, true, false, cond, ◌&&◌, map, Option, Some, None, refl, sym, ◌∙◌, ap, subst}
+use Rattle.std.proofs.Common.{◌≡◌, ◌≢◌, inl, inr, ⊎_elim, ℕ, List, [], ◌∷◌, Bool, true, false, cond, map, Option, Some, refl, sym, ◌∙◌, ap, subst}
 use Rattle.std.proofs.lemmas.Bool.{cases_eq}
 use Rattle.std.specs.Cmp.{nat_cmp_total, tied_itself, unsigned_tied}
 use Rattle.std.specs.FinMap as maps
@@ -10,17 +10,12 @@ use Rattle.std.specs.Prelude.{T}
 use Rattle.meaning_areas.proofs.Tables.{test-other, test-same}
 use Rattle.meaning_settling.proofs.KeyedLaws.{false_true}
 use Rattle.meaning_settling.specs.Settled.{AreDistinct, IsIn, IsNot}
-
-both : (a b : Bool) → (a && b) ≡ true → (a ≡ true) × (b ≡ true)
-both true b e = (refl, e)
-both false b e = absurd (false_true e)
+use Rattle.meaning_system.proofs.Resolved.{both}
+use Rattle.meaning_promises.proofs.Promised.{none_some}
 
 truth : (b : Bool) → T b → b ≡ true
 truth true t = refl
 truth false t = absurd t
-
-none_some : {A : Type 0} (x : A) → None ≡ Some x → ⊥
-none_some x e = cc
 
 module _ {X : Type 0} where
   abbrev pub Found : (ℕ → Option X) → List (ℕ × X) → Type 0

@@ -26,10 +26,8 @@ use Rattle.meaning_system.specs.CoreOf.{IsLive, core_of, work_by}
 use Rattle.meaning_system.specs.Machine.{count_left, drop_all, drop_left, finish_all, finish_left, is_left_in, resolve, settled_by, step}
 use Rattle.meaning_system.specs.State.{State, Txn, is_active, is_decided, is_left, is_prepared, moved_of, numbered_txn, txn_at, txn_of, without_txn}
 use Rattle.meaning_promises.specs.Stops.{AreSoMany, IsAlone}
+use Rattle.meaning_promises.proofs.Promised.{none_some}
 use Rattle.meaning_promises.proofs.Entries.{Found, entries-differ, entries-found, find-here, find-there, key-in}
-
-none_some : {A : Type 0} (x : A) → None ≡ Some x → ⊥
-none_some x e = cc
 
 tested : (a b : ℕ) → (a == b) ≡ true → a ≡ b
 tested a b e = grind (arith, nat_tests)
