@@ -118,7 +118,7 @@ def processor_of(pid):
 
 class Run:
     """A run of the program in a folder: what it told, how long the opening took and how many bytes were in memory then; how long the
-    lines took behind the mark, both in seconds and in seconds of the processor; and how many lines had been told when, from the mark on."""
+    lines took behind the mark, both in seconds and in seconds of the processor; and how many lines had been told by which look, with the moment of the look before, from the mark on."""
 
     def __init__(self, program, folder, lines, before=()):
         given = "".join(text + "\n" for text, _ in [(MARK, MARK_TOLD)] + lines).encode()
@@ -136,7 +136,7 @@ class Run:
             child = subprocess.Popen([*before, program, "run"], cwd=folder, stdin=source, stdout=write, env=surroundings())
             os.close(write)
             # The first answer came behind the last look that found none, so no time is told too short.
-            empty = first = last = start, 0
+            empty = first = last = former = start, 0
             self.peak, looks = 0, []
             while True:
                 look = time.monotonic(), processor_of(child.pid)
@@ -144,6 +144,7 @@ class Run:
                     part = os.read(read, 1 << 20)
                 except BlockingIOError:
                     empty = empty if told else look
+                    former = look
                     time.sleep(POLL)
                     continue
                 if not part:
@@ -152,7 +153,8 @@ class Run:
                 if not told:
                     first, self.peak = last, peak_so_far(child.pid)
                 told += part
-                looks.append((done_of(told), last[0]))
+                looks.append((done_of(told), former[0], last[0]))
+                former = look
             child.wait()
             os.close(read)
         self.told = told.decode().splitlines()
@@ -160,7 +162,7 @@ class Run:
         self.seconds = last[0] - empty[0]
         self.processor = last[1] - empty[1]
         # The mark counts as told at the last look before its answer.
-        self.looks = [(1, empty[0]), *looks]
+        self.looks = [(1, empty[0], empty[0]), *looks]
         wanted = [MARK_TOLD] + [answer for _, answer in lines]
         heads = [line.partition(": ") for line in self.told if line.partition(":")[0].isdigit()]
         for i, answer in enumerate(wanted):
@@ -171,14 +173,14 @@ class Run:
 
 
 def best_of(looks, lines):
-    """The best time of one among so many in a row, or a few more, in seconds, from how many were done when. With fewer in all it is that of
-    all."""
-    times, (place, took) = [], looks[0]
+    """The best time of one among so many in a row, or a few more, in seconds, from how many were done when. They are taken from the last look
+    before them to the first one behind them, so a look that came late makes them longer and never shorter. With fewer in all it is that of all."""
+    times, (place, since, _) = [], looks[0]
     lines = min(lines, looks[-1][0] - place)
-    for there, then in looks[1:]:
+    for there, former, now in looks[1:]:
         if there - place >= lines:
-            times.append((then - took) / (there - place))
-            place, took = there, then
+            times.append((now - since) / (there - place))
+            place, since = there, former
     return min(times)
 
 
@@ -326,10 +328,12 @@ def seconds_of_sqlite(folder, place, statements, in_a_row):
     try:
         base = opened_base(there)
         base.execute("SELECT COUNT(*) FROM t").fetchall()
-        looks = [(0, time.monotonic())]
+        now = time.monotonic()
+        looks = [(0, now, now)]
         for count, (text, _) in enumerate(statements):
             base.execute(text).fetchall()
-            looks.append((count + 1, time.monotonic()))
+            now = time.monotonic()
+            looks.append((count + 1, now, now))
         base.close()
         return best_of(looks, in_a_row) * len(statements)
     finally:

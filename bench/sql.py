@@ -140,14 +140,17 @@ def peak_of(pid):
 
 
 def watched(run, source):
-    """How many bytes of its source a run has done with, at least, and when, each time that it was seen to have read on; and its peak of
-    memory, in bytes. When it reads on it has done with all that it had read before."""
-    seen, last, peak, looks = [], 0, 0, 0
+    """How many bytes of its source a run has done with, at least, each time that it was seen to have read on, with the moment of the look
+    before and that of this one, between which it did; and its peak of memory, in bytes. When it reads on it has done with all that it had
+    read before."""
+    seen, last, peak, looks, former = [], 0, 0, 0, time.perf_counter()
     while run.poll() is None:
-        place, took = os.lseek(source, 0, os.SEEK_CUR), time.perf_counter()
+        before = time.perf_counter()
+        place = os.lseek(source, 0, os.SEEK_CUR)
         if place != last:
-            seen.append((last, took))
+            seen.append((last, former, time.perf_counter()))
             last = place
+        former = before
         if looks % 50 == 0:
             peak = max(peak, peak_of(run.pid))
         looks += 1
@@ -175,16 +178,17 @@ def ran(before, statements):
 
 
 def times_of(before, statements, size):
-    """The time of a statement in each part of a run that has so many statements or a few more, in seconds, and the peak of memory."""
+    """The time of a statement in each part of a run that has so many statements or a few more, in seconds, and the peak of memory. A part is
+    taken from the last look before it to the first one behind it, so a look that came late makes it longer and never shorter."""
     text, start, stop, seen, peak = ran(before, statements)
     # It begins when the comment before the statements is being read, and ends when that behind them is.
-    first = max(i for i, (place, _) in enumerate(seen) if place <= start)
-    times, (place, took) = [], seen[first]
-    for there, then in seen[first + 1:]:
+    first = max(i for i, (place, _, _) in enumerate(seen) if place <= start)
+    times, (place, since, _) = [], seen[first]
+    for there, former, now in seen[first + 1:]:
         count = text.count(b"\n", max(place, start), min(there, stop))
         if count >= size:
-            times.append((then - took) / count)
-            place, took = there, then
+            times.append((now - since) / count)
+            place, since = there, former
     return times, peak
 
 

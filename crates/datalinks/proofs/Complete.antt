@@ -1,5 +1,6 @@
 -- An end whose causes are all ruled out.
 use Rattle.std.proofs.Common.{◌≡◌, ◌≤◌, ℕ, List, length, refl, Option, Some, arith}
+use Rattle.dl_base.specs.Limits.{most_script_bytes}
 use Rattle.dl_base.specs.Outside.{FaultCounted, Outside}
 use Rattle.dl_base.specs.Sources.{RoseFrom}
 use Rattle.dl_base.specs.declared.area.Area.{Area}
@@ -8,7 +9,7 @@ use Rattle.datalinks.proofs.Standing.{found-store}
 use Rattle.datalinks.specs.Codes.{IsRunEnd, script_end}
 use Rattle.datalinks.specs.Complete.{IsDone}
 use Rattle.datalinks.specs.Run.{Begun, HasRoom, IsFullAt, IsNoStore}
-use Rattle.datalinks.specs.Script.{IsTooLong, most_bytes}
+use Rattle.datalinks.specs.Script.{IsTooLong}
 use Rattle.datalinks.specs.declared.script.ScriptFault.{ScriptFault}
 use Rattle.datalinks.specs.declared.script.ScriptFault.TheVariants as scripts
 use Rattle.datalinks.specs.declared.status.Status.{Status}
@@ -28,7 +29,7 @@ run-done (status.Full f) run o n found is device none full room = room.room f (f
 run-done (status.TooLong count) run o n found is device none full room = is
 run-done status.Memory run o n found is device none full room = tt
 
-pub script-done : (fault : ScriptFault) (script : List ℕ) (left later : Option (List ℕ)) (before now : ℕ) → left ≡ Some script → length script ≤ most_bytes → (RoseFrom before now → ⊥)
+pub script-done : (fault : ScriptFault) (script : List ℕ) (left later : Option (List ℕ)) (before now : ℕ) → left ≡ Some script → length script ≤ most_script_bytes → (RoseFrom before now → ⊥)
     → (fault ≡ scripts.Source → RoseFrom before now) → ((n : ℕ) → fault ≡ scripts.TooLong n → IsTooLong n left later) → IsDone (script_end fault)
 script-done scripts.Source script left later before now is short calm source long = calm (source refl)
 script-done (scripts.TooLong n) script left later before now is short calm source long =

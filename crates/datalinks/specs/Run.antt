@@ -3,7 +3,7 @@ use Rattle.std.specs.Prelude.{◌≡◌, ◌⊎◌, ℕ, List, ◌++◌, Option,
 use Rattle.std.specs.Str.Lines.{lines}
 use Rattle.dl_areas.specs.Lists.{HasLists, Journals, Lists, all_grown, puts}
 use Rattle.dl_areas.specs.Opening.{IsInOpening, journals_with}
-use Rattle.dl_areas.specs.Writing.{full_in}
+use Rattle.dl_areas.specs.Writing.{fitting, full_in}
 use Rattle.dl_base.specs.Outside.{AtEveryMoment, CrashState, FaultCounted, Now, Outside, extended}
 use Rattle.dl_base.specs.declared.area.Area.{Area}
 use Rattle.dl_base.specs.declared.fault.Full.{Full}
@@ -74,10 +74,12 @@ pub record IsWholeRun (run : Begun) (o n : Outside) : Type 0 where
   pub recovers : (p : CrashState) → Now n p → Recovers (areas_of p) (after count (run_of run)).state
   pub fits : full_in (journals_with run.given.limit run.lists) (as_writes (opening run.folds ++ written count (run_of run))) ≡ None
 
--- what is full: a record of the opening, behind which nothing is told; or, where these fit, one of the step in progress
+-- what is full: a record of the opening: nothing is told, and a crash leaves those records of the opening that fit; or, where all of these do,
+-- one of the step in progress
 pub record IsFullOpening (run : Begun) (full : Full) (o n : Outside) : Type 0 where
   pub full_is : full_in (journals_with run.given.limit run.lists) (as_writes (opening run.folds)) ≡ Some full
   pub told : n.told ≡ o.told
+  pub has : (p : CrashState) → Now n p → HasLists (puts (fitting (journals_with run.given.limit run.lists) (as_writes (opening run.folds))) run.lists) p
 
 abbrev pub IsFullAt : Begun → Full → Outside → Outside → Type 0
 IsFullAt run full o n = IsFullOpening run full o n ⊎ (OpeningFits run × IsFullIn (journals_behind run) (lists_behind run) (run_of run) o.told full n)

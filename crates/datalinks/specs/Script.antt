@@ -3,10 +3,6 @@ use Rattle.std.specs.Prelude.{◌≡◌, ℕ, ◌+◌, ◌≤◌, List, [], ◌+
 use Rattle.dl_base.specs.Limits.{most_script_bytes}
 use Rattle.dl_base.specs.Sources.{Took}
 
--- how many bytes a script may have
-abbrev pub most_bytes : ℕ
-most_bytes = most_script_bytes
-
 -- the bytes are all that was left, and nothing is left
 pub record IsWhole (bytes : List ℕ) (old new : Option (List ℕ)) : Type 0 where
   pub all : (left : List ℕ) → old ≡ Some left → bytes ≡ left
@@ -21,6 +17,6 @@ pub record TookMore (n : ℕ) (script more : List ℕ) (old new : Option (List �
 
 -- so many bytes were taken and no more, which is one more than a script may have
 pub record IsTooLong (n : ℕ) (old new : Option (List ℕ)) : Type 0 where
-  pub count : n ≡ most_bytes + 1
+  pub count : n ≡ most_script_bytes + 1
   pub longer : (left : List ℕ) → old ≡ Some left → n ≤ length left
   pub took : (left : List ℕ) → old ≡ Some left → new ≡ Some (drop n left)

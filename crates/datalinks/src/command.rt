@@ -1,6 +1,9 @@
 // A command on one thread.
-ghost use Rattle.std.specs.Prelude.{◌≡◌, ◌≤◌, ◌^◌, ℕ, List, [], Some, None, length};
+ghost use Rattle.std.specs.Prelude.{◌≡◌, ◌≤◌, ◌^◌, ℕ, List, [], Some, None, length, false};
+ghost use Rattle.std.specs.List.{list_all};
+ghost use Rattle.std.specs.Str.{is_utf8};
 ghost use Rattle.dl_areas.specs.Opening.{IsInOpening};
+ghost use Rattle.dl_base.specs.Limits.{most_script_bytes};
 ghost use Rattle.dl_base.specs.Outside.{AtEveryMoment, CrashState, FaultCounted};
 ghost use Rattle.dl_base.specs.Sources.{RoseFrom};
 ghost use Rattle.dl_base.specs.declared.area.Area.{Area};
@@ -11,8 +14,8 @@ ghost use Rattle.meaning_areas.specs.Stands.{Stored};
 ghost use Rattle.datalinks.specs.Codes.{IsRunEnd, IsUsage, opening_end, step_end, script_end};
 ghost use Rattle.datalinks.specs.Complete.{IsDone, WasRead, WasOpened, StandsNow};
 ghost use Rattle.datalinks.specs.Run.{Begun, Begins, BeginsWith, HasRoom, IsFullAt, IsInside, IsNoStore, IsWholeRun};
-ghost use Rattle.datalinks.specs.Script.{IsTooLong, most_bytes};
-ghost use Rattle.run_args.specs.Words.{settings};
+ghost use Rattle.datalinks.specs.Script.{IsTooLong};
+ghost use Rattle.run_args.specs.Words.{names_run, settings};
 ghost use Rattle.sys_owners.specs.Owned.{AreTold};
 ghost use Rattle.sys_recovery.specs.Left.{areas_of};
 ghost use Rattle.sys_reopening.specs.Again.{EveryImageStands};
@@ -39,13 +42,19 @@ pub fn single<S: Source, B: Bench>(
     source: &mut S,
     bench: B,
 ) -> (Status, B)
-    // Words that name no command lead to this end alone, or there is no memory; and nothing is touched.
+    // Words that name no command lead to this end alone, or there is no memory; and nothing is touched. Words without `run`, and words that
+    // are no UTF-8, lead to it whatever memory there is.
     ensures usage { result.0 ≡ Status.Usage → settings words.now ≡ None }
     ensures untouched { settings words.now ≡ None → IsUsage result.0 × (result.1 ≡ bench) × (source.new ≡ source.old) }
+    ensures named { names_run words.now ≡ false → result.0 ≡ Status.Usage }
+    ensures texts { list_all is_utf8 words.now ≡ false → result.0 ≡ Status.Usage }
 
     // At the end the script was read whole, each line was told, and the areas have what the opening and all steps wrote, which fits.
     ensures whole { result.0 ≡ Status.Done → (run : Begun) → Begins words.now (S.rest source.old) (B.outside bench) run
-        → IsWholeRun run (B.outside bench) (B.outside result.1) × (S.rest source.new ≡ Some []) × (length run.script ≤ most_bytes) }
+        → IsWholeRun run (B.outside bench) (B.outside result.1) × (S.rest source.new ≡ Some []) × (length run.script ≤ most_script_bytes) }
+
+    // And no fault was counted on the way, by the bench or by the source: so no call that failed was made again and passed over.
+    ensures clean { result.0 ≡ Status.Done → ((B.outside result.1).faults ≡ (B.outside bench).faults) × (S.faults source.new ≡ S.faults source.old) }
 
     // THE HEADLINE. However it ends, a crash at any moment, and after it, leaves in the areas what they had, the records of the opening and of
     // some of the turns, in their order, and the first of those of the next, all of which fit, and nothing else; the areas recover to the state
@@ -69,11 +78,11 @@ pub fn single<S: Source, B: Bench>(
     ensures unopened { (x : Areas) → AreTold x (B.outside bench) → ((s : Stored) → AreasStand x s → ⊥) → AtEveryMoment (IsInOpening (B.outside bench)) (B.outside bench) (B.outside result.1) × ((B.outside result.1).told ≡ (B.outside bench).told) }
 
     // A script that is too long, and areas that stand for nothing, lead to no end but their own, a fault or want of memory.
-    ensures within { WasRead result.0 → (script : List ℕ) → S.rest source.old ≡ Some script → length script ≤ most_bytes }
+    ensures within { WasRead result.0 → (script : List ℕ) → S.rest source.old ≡ Some script → length script ≤ most_script_bytes }
     ensures stood { WasOpened result.0 → StandsNow (B.outside bench) }
 
     // With no cause of another end, the whole script was done, or memory was wanting.
-    ensures complete { (run : Begun) → Begins words.now (S.rest source.old) (B.outside bench) run → length run.script ≤ most_bytes
+    ensures complete { (run : Begun) → Begins words.now (S.rest source.old) (B.outside bench) run → length run.script ≤ most_script_bytes
         → HasRoom run (B.outside bench) (B.outside result.1) → (RoseFrom (S.faults source.old) (S.faults source.new) → ⊥) → IsDone result.0 }
 {
     a_stopped_opening_stands::<B>();
@@ -95,7 +104,8 @@ fn command<S: Source, B: Bench>(
     requires high { given.limit ≤ 2 ^ 63 }
     ensures no_usage { result.0 ≡ Status.Usage → ⊥ }
     ensures whole { result.0 ≡ Status.Done → (run : Begun) → BeginsWith given (S.rest source.old) (B.outside bench) run
-        → IsWholeRun run (B.outside bench) (B.outside result.1) × (S.rest source.new ≡ Some []) × (length run.script ≤ most_bytes) }
+        → IsWholeRun run (B.outside bench) (B.outside result.1) × (S.rest source.new ≡ Some []) × (length run.script ≤ most_script_bytes) }
+    ensures clean { result.0 ≡ Status.Done → ((B.outside result.1).faults ≡ (B.outside bench).faults) × (S.faults source.new ≡ S.faults source.old) }
     ensures history { (run : Begun) → BeginsWith given (S.rest source.old) (B.outside bench) run → AtEveryMoment (IsInside run (B.outside bench)) (B.outside bench) (B.outside result.1) }
     ensures device { result.0 ≡ Status.Device → FaultCounted (B.outside bench) (B.outside result.1) }
     ensures source { result.0 ≡ Status.Source → RoseFrom (S.faults source.old) (S.faults source.new) × (result.1 ≡ bench) }
@@ -103,9 +113,9 @@ fn command<S: Source, B: Bench>(
     ensures not_a_store { (area : Area) (place : ℕ) → result.0 ≡ Status.NotAStore area place → IsNoStore area place (B.outside bench) (B.outside result.1) }
     ensures unopened { (x : Areas) → AreTold x (B.outside bench) → ((s : Stored) → AreasStand x s → ⊥) → AtEveryMoment (IsInOpening (B.outside bench)) (B.outside bench) (B.outside result.1) × ((B.outside result.1).told ≡ (B.outside bench).told) }
     ensures full { (full : Full) → result.0 ≡ Status.Full full → (run : Begun) → BeginsWith given (S.rest source.old) (B.outside bench) run → IsFullAt run full (B.outside bench) (B.outside result.1) }
-    ensures within { WasRead result.0 → (script : List ℕ) → S.rest source.old ≡ Some script → length script ≤ most_bytes }
+    ensures within { WasRead result.0 → (script : List ℕ) → S.rest source.old ≡ Some script → length script ≤ most_script_bytes }
     ensures stood { WasOpened result.0 → StandsNow (B.outside bench) }
-    ensures complete { (run : Begun) → BeginsWith given (S.rest source.old) (B.outside bench) run → length run.script ≤ most_bytes
+    ensures complete { (run : Begun) → BeginsWith given (S.rest source.old) (B.outside bench) run → length run.script ≤ most_script_bytes
         → HasRoom run (B.outside bench) (B.outside result.1) → (RoseFrom (S.faults source.old) (S.faults source.new) → ⊥) → IsDone result.0 }
 {
     match read_script(alloc, source) {
@@ -134,6 +144,7 @@ fn run<B: Bench>(alloc: Global, mut bench: B, given: Settings, script: &[u8]) ->
     requires high { given.limit ≤ 2 ^ 63 }
     ensures end { IsRunEnd result.0 }
     ensures whole { result.0 ≡ Status.Done → (run : Begun) → BeginsWith given (Some script.now) (B.outside bench) run → IsWholeRun run (B.outside bench) (B.outside result.1) }
+    ensures clean { result.0 ≡ Status.Done → (B.outside result.1).faults ≡ (B.outside bench).faults }
     ensures history { (run : Begun) → BeginsWith given (Some script.now) (B.outside bench) run → AtEveryMoment (IsInside run (B.outside bench)) (B.outside bench) (B.outside result.1) }
     ensures device { result.0 ≡ Status.Device → FaultCounted (B.outside bench) (B.outside result.1) }
     ensures not_a_store { (area : Area) (place : ℕ) → result.0 ≡ Status.NotAStore area place → IsNoStore area place (B.outside bench) (B.outside result.1) }

@@ -32,6 +32,7 @@ pub(crate) fn run_lines<B: Bench>(
     ensures full { (full : Full) → result ≡ Err (StepFault.Full full) → (first : ℕ) (lists : Lists) (before : Optional (Bytes ℕ)) (r : Run) → Stands first lists before r engine.old sessions.old (B.outside bench.old) → IsAtScript script.now r
         → IsFullIn (journals_of engine.old.owners) lists r before full (B.outside bench.new) }
     ensures device { result ≡ Err StepFault.Device → FaultCounted (B.outside bench.old) (B.outside bench.new) }
+    ensures clean { OnOk result ((B.outside bench.new).faults ≡ (B.outside bench.old).faults) }
 {
     records_in_parts();
     turns_follow_one_another();

@@ -6,7 +6,7 @@ use Rattle.dl_base.specs.declared.fault.AppendFault.{AppendFault}
 use Rattle.dl_base.specs.declared.fault.AppendFault.TheVariants as appends
 use Rattle.dl_base.specs.declared.fault.Full.{Full}
 use Rattle.dl_base.specs.declared.fault.Full.TheVariants as fulls
-use Rattle.db_store.specs.Store.{draw_full, most_numbers, opening_full}
+use Rattle.meaning_areas.specs.Full.{draw_full, most_numbers, opening_full}
 
 abbrev faults : Option Full → Option AppendFault
 faults o = option_map (λ f. appends.Full f) o

@@ -1,8 +1,6 @@
 -- What contracts see of the commits that are open on a bench.
-use Rattle.std.specs.Prelude.{◌≡◌, ℕ, ◌+◌, ◌-◌, ◌*◌, ◌^◌, List, [], length, Option, Some, None, Result, Ok, Err, nat_lt, if◌then◌else◌}
+use Rattle.std.specs.Prelude.{◌≡◌, ℕ, ◌+◌, ◌*◌, ◌^◌, List, [], length, Some, None, Result, Ok, Err}
 use Rattle.dl_base.specs.declared.area.Area.TheVariants as areas
-use Rattle.dl_base.specs.declared.fault.Full.{Full}
-use Rattle.dl_base.specs.declared.fault.Full.TheVariants as fulls
 use Rattle.dl_codec.specs.Rows.{rows_record}
 use Rattle.dl_codec.specs.declared.rows.RowsRecord.TheVariants as records
 use Rattle.dl_areas.specs.Lists.{Write, write_of}
@@ -10,20 +8,10 @@ use Rattle.dl_journal.specs.Extent.{Extent}
 use Rattle.dl_journal.specs.Records.{records as bodies_in}
 use Rattle.meaning_areas.specs.Areas.{rows_of}
 use Rattle.meaning_areas.specs.Commits.{Commits, commit_to, rows_step, tables_after, with_commit, with_ended}
+use Rattle.meaning_areas.specs.Full.{opening_full}
 use Rattle.meaning_tables.specs.Tables.{Tables}
 use Rattle.db_changes.specs.Made.{Making, record_of}
 use Rattle.db_replay.specs.Changes.{all_at_version, applied}
-
--- the greatest number of an opening, and of a transaction inside one
-abbrev pub most_numbers : ℕ
-most_numbers = 2 ^ 32 - 2
-
--- what is full where a next number, n, would pass it
-abbrev pub opening_full : ℕ → Option Full
-opening_full n = if nat_lt most_numbers n then Some (fulls.Openings (n - 1)) else None
-
-abbrev pub draw_full : ℕ → Option Full
-draw_full n = if nat_lt most_numbers n then Some (fulls.Transactions (n - 1)) else None
 
 -- The commits, how many transaction numbers of the opening are drawn, for how many more commits there is room, how many bytes their
 -- area has up to behind the closing gate, and how many it may have.

@@ -12,11 +12,12 @@ ghost use Rattle.dl_codec.specs.declared.rows.RowsRecord.TheVariants as records;
 ghost use Rattle.dl_journal.specs.Open.{IsOpen, IsUnwritten};
 ghost use Rattle.meaning_areas.specs.Areas.{rows_of};
 ghost use Rattle.meaning_areas.specs.Commits.{commit_of, has_number, tables_after, with_ended};
+ghost use Rattle.meaning_areas.specs.Full.{draw_full, most_numbers};
 ghost use Rattle.meaning_areas.specs.Stands.{past};
 ghost use Rattle.db_changes.specs.Made.{record_of};
 ghost use Rattle.db_changes.specs.Touched.{AreCommitted};
 ghost use Rattle.db_store.specs.Log.{AllCommitted, AllNew, commit_numbered, open_branches};
-ghost use Rattle.db_store.specs.Store.{CanEnd, IsTaken, commit_write, committed_with, draw_full, drawn_next, ended_write, extent, most_numbers, opening_write, reopened, rows_in};
+ghost use Rattle.db_store.specs.Store.{CanEnd, IsTaken, commit_write, committed_with, drawn_next, ended_write, extent, opening_write, reopened, rows_in};
 
 use crate::apply::{next_tables, past_tables};
 use crate::ended::Ended;

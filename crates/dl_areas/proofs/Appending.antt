@@ -125,8 +125,9 @@ module _ (js : Journals) (j k : Extent) (body : List ℕ) (o n : Outside) (ready
       → OnOk result (k ≡ grown j (length body))
       → IfErr result (λ fault. fault ≡ appends.Device)
       → (result ≡ Err appends.Device → FaultCounted o n)
+      → OnOk result (n.faults ≡ o.faults)
       → Does js (with_journal k js) (w ∷ []) (result_err result) o n
-  does-fits (Ok x) is more adds gate grew room device = record {
+  does-fits (Ok x) is more adds gate grew room device clean = record {
     told = adds.told;
     faults = adds.faults;
     images = fitting-moments is adds;
@@ -137,8 +138,9 @@ module _ (js : Journals) (j k : Extent) (body : List ℕ) (o n : Outside) (ready
     full = λ f e. absurd cc;
     before = λ f e. absurd cc;
     device = λ e. absurd cc;
+    clean = λ e. clean;
   }
-  does-fits (Err fault) is more adds gate grew room device = record {
+  does-fits (Err fault) is more adds gate grew room device clean = record {
     told = adds.told;
     faults = adds.faults;
     images = fitting-moments is adds;
@@ -149,6 +151,7 @@ module _ (js : Journals) (j k : Extent) (body : List ℕ) (o n : Outside) (ready
     full = λ f e. absurd cc;
     before = λ f e. absurd cc;
     device = λ e. device (ap Err room);
+    clean = λ e. absurd cc;
   }
 
   -- it does not
@@ -175,6 +178,7 @@ module _ (js : Journals) (j k : Extent) (body : List ℕ) (o n : Outside) (ready
         before = λ f g lists all. subst (λ (ws : List Write). AreKept (with_journal k js) (puts ws lists) n) (sym none)
             (subst (λ (m : Outside). AreKept (with_journal k js) lists m) (sym still) (subst (λ (l : Journals). AreKept l lists o) (sym unmoved) all));
         device = λ f. absurd cc;
+        clean = λ f. absurd cc;
       }
     where
       same_full : (fault : AppendFault) (f g : Full) → ◌≡◌ {A = Result Unit AppendFault} (Err fault) (Err (appends.Full g)) → Some fault ≡ Some (appends.Full f) → Some g ≡ Some f
@@ -190,12 +194,13 @@ module _ (js : Journals) (j k : Extent) (body : List ℕ) (o n : Outside) (ready
       → (j.length + 9 + length body ≤ j.limit → IfErr result (λ fault. fault ≡ appends.Device))
       → (j.limit < j.length + 9 + length body → n ≡ o)
       → (result ≡ Err appends.Device → FaultCounted o n)
+      → OnOk result (n.faults ≡ o.faults)
       → Does js (with_journal k js) (w ∷ []) (result_err result) o n
-  does-one result more adds gate grew kept full room unwritten device = pick (nat_lt j.limit (j.length + 9 + length body)) refl
+  does-one result more adds gate grew kept full room unwritten device clean = pick (nat_lt j.limit (j.length + 9 + length body)) refl
     where
       pick : (b : Bool) → nat_lt j.limit (j.length + 9 + length body) ≡ b → Does js (with_journal k js) (w ∷ []) (result_err result) o n
       pick true is = let lt : j.limit < j.length + 9 + length body = grind (arith, nat_tests) in does-full result is (unwritten lt) adds kept (full.0 lt)
-      pick false is = let le : j.length + 9 + length body ≤ j.limit = grind (arith, nat_tests) in does-fits result is more adds gate grew (room le) device
+      pick false is = let le : j.length + 9 + length body ≤ j.limit = grind (arith, nat_tests) in does-fits result is more adds gate grew (room le) device clean
 
 -- the same, whatever the other journals are
 pub alone-one : (j k : Extent) (body : List ℕ) (result : Result Unit AppendFault) (o n : Outside)
@@ -208,12 +213,13 @@ pub alone-one : (j k : Extent) (body : List ℕ) (result : Result Unit AppendFau
     → (j.length + 9 + length body ≤ j.limit → IfErr result (λ fault. fault ≡ appends.Device))
     → (j.limit < j.length + 9 + length body → n ≡ o)
     → (result ≡ Err appends.Device → FaultCounted o n)
+    → OnOk result (n.faults ≡ o.faults)
     → DoesAlone j k (write_of j.area body None ∷ []) (result_err result) o n
-alone-one j k body result o n more adds gate grew kept full room unwritten device = record {
+alone-one j k body result o n more adds gate grew kept full room unwritten device clean = record {
   area = stays result grew kept;
   others = adds.others_read;
   gate = opened result gate;
-  does = λ js ready at. does-one js j k body o n ready at (stays result grew kept) result more adds gate grew kept full room unwritten device;
+  does = λ js ready at. does-one js j k body o n ready at (stays result grew kept) result more adds gate grew kept full room unwritten device clean;
 }
   where
     stays : (r : Result Unit AppendFault) → OnOk r (k ≡ grown j (length body)) → OnErr r (k ≡ j) → k.area ≡ j.area
@@ -246,6 +252,7 @@ does-exhausted js w f o is = record {
   full = λ g e. exhausted-full js w f is ∙ same f g e;
   before = λ g e lists kept. subst (λ (ws : List Write). AreKept js (puts ws lists) o) (sym (exhausted-none js w f is)) kept;
   device = λ e. absurd cc;
+  clean = λ e. absurd cc;
 }
   where
     same : (f g : Full) → Some (appends.Full f) ≡ Some (appends.Full g) → Some f ≡ Some g

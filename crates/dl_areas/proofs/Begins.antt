@@ -44,4 +44,5 @@ module _ (limit : ℕ) (js ks : Journals) (lists : Lists) (ws : List Write) (o m
     fits = λ read is. sym (same-full read is) ∙ does.fits refl;
     grew = λ read is. does.grew refl ∙ ap (λ (j : Journals). all_grown ws j) (same-journals read is);
     keeps = λ read is. does.done refl read (kept-read read is);
+    clean = does.clean refl ∙ all.clean;
   }

@@ -45,6 +45,7 @@ does-none js o = record {
   full = λ f is. absurd cc;
   before = λ f is. absurd cc;
   device = λ is. absurd cc;
+  clean = λ is. refl;
 }
 
 -- some records, and then others
@@ -69,6 +70,7 @@ does-then js ks ls ws vs fault o m n first second =
       full = λ f is. full ∙ second.full f is;
       before = λ f is lists kept. subst (λ (l : Lists). AreKept ls l n) (sym (puts-then ws (fitting ks vs) lists) ∙ ap (λ (l : List Write). puts l lists) parts) (second.before f is (puts ws lists) (first.done refl lists kept));
       device = λ is. risen o m n first.faults (second.device is);
+      clean = λ is. second.clean is ∙ first.clean refl;
     }
   where
     risen : (o m n : Outside) → o.faults ≤ m.faults → FaultCounted m n → FaultCounted o n
@@ -88,6 +90,7 @@ does-stop js ks ws vs fault o n d = record {
   full = λ f is. full-stop ws vs js f (d.full f is);
   before = λ f is lists kept. subst (λ (l : List Write). AreKept ks (puts l lists) n) (sym (fitting-stop ws vs js f (d.full f is))) (d.before f is lists kept);
   device = d.device;
+  clean = λ is. absurd cc;
 }
 
 -- the same records and the same fault under other names

@@ -78,21 +78,22 @@ opens-5 o m1 m2 m3 m4 m5 r l f a b = opens-more 4 Backups o m4 m5 (omega arith) 
 -- the areas that are open
 
 pub opened-none : (limit : ℕ) (js : Journals) (lists : Lists) (o : Outside) → AreOpened 0 limit js lists o o
-opened-none limit js lists o = record { opens = opens-none o; opened = λ a below. absurd (omega (arith, below)) }
+opened-none limit js lists o = record { opens = opens-none o; opened = λ a below. absurd (omega (arith, below)); clean = refl }
 
 -- an area that was opened behind others
-opened-since : (k : ℕ) (a : Area) (limit : ℕ) (j : Extent) (bodies : List (List ℕ)) (o m n : Outside) → k ≤ area_number a → Opens k o m → IsOpened a limit j bodies m n → IsOpened a limit j bodies o n
-opened-since k a limit j bodies o m n le so_far is = record {
+opened-since : (k : ℕ) (a : Area) (limit : ℕ) (j : Extent) (bodies : List (List ℕ)) (o m n : Outside) → k ≤ area_number a → Opens k o m → m.faults ≡ o.faults → IsOpened a limit j bodies m n → IsOpened a limit j bodies o n
+opened-since k a limit j bodies o m n le so_far clean is = record {
   area = is.area;
   limit_is = is.limit_is;
   is_list = subst (λ (r : Option (List ℕ)). IsList bodies r) (so_far.still a le) is.is_list;
   keeps = is.keeps;
   gate = is.gate;
+  clean = is.clean ∙ clean;
 }
 
 -- an area stays open while another is opened
-opened-still : (a b : Area) (limit : ℕ) (j : Extent) (bodies : List (List ℕ)) (o m n : Outside) → a ≢ b → OpensOne b m n → IsOpened a limit j bodies o m → IsOpened a limit j bodies o n
-opened-still a b limit j bodies o m n other one is =
+opened-still : (a b : Area) (limit : ℕ) (j : Extent) (bodies : List (List ℕ)) (o m n : Outside) → a ≢ b → OpensOne b m n → n.faults ≡ m.faults → IsOpened a limit j bodies o m → IsOpened a limit j bodies o n
+opened-still a b limit j bodies o m n other one clean is =
     let apart : j.area ≢ b = λ e. other (sym is.area ∙ e) in
     record {
       area = is.area;
@@ -100,6 +101,7 @@ opened-still a b limit j bodies o m n other one is =
       is_list = is.is_list;
       keeps = record { length = is.keeps.length; fits = is.keeps.fits; images = λ c left. is.keeps.images c (one.images.others j.area apart c left) };
       gate = λ told reads. is.gate told (sym (one.images.others_read j.area apart) ∙ reads);
+      clean = clean ∙ is.clean;
     }
 
 pub opened-more : (a : Area) (limit : ℕ) (js : Journals) (lists : Lists) (o m n : Outside) → AreOpened (area_number a) limit js lists o m → OpensOne a m n → IsOpened a limit (js a) (lists a) m n
@@ -107,9 +109,10 @@ pub opened-more : (a : Area) (limit : ℕ) (js : Journals) (lists : Lists) (o m 
 opened-more a limit js lists o m n so_far one is = record {
   opens = opens-more (area_number a) a o m n (omega arith) so_far.opens one;
   opened = λ b below. ⊎_elim
-      (λ (e : b ≡ a). let P : Area → Type 0 = λ x. IsOpened x limit (js x) (lists x) o n in subst P (sym e) (opened-since (area_number a) a limit (js a) (lists a) o m n (omega arith) so_far.opens is))
-      (λ (other : b ≢ a). opened-still b a limit (js b) (lists b) o m n other one (so_far.opened b (under b other below)))
+      (λ (e : b ≡ a). let P : Area → Type 0 = λ x. IsOpened x limit (js x) (lists x) o n in subst P (sym e) (opened-since (area_number a) a limit (js a) (lists a) o m n (omega arith) so_far.opens so_far.clean is))
+      (λ (other : b ≢ a). opened-still b a limit (js b) (lists b) o m n other one is.clean (so_far.opened b (under b other below)))
       (same_area b a);
+  clean = is.clean ∙ so_far.clean;
 }
   where
     under : (b : Area) → b ≢ a → area_number b < area_number a + 1 → area_number b < area_number a

@@ -14,14 +14,15 @@ pub record OpensOne (a : Area) (o n : Outside) : Type 0 where
   pub images : ChangesOnly a (IsOpening a o) o n
   pub same_list : ReadsSameList (o.reads a) (n.reads a)
 
--- The area is open with this journal, and these are the bodies that it read. An opening of an owner gives some bodies of which
--- this holds, and says what they stand for.
+-- The area is open with this journal, these are the bodies that it read, and no fault was counted. An opening of an owner gives
+-- some bodies of which this holds, and says what they stand for.
 pub record IsOpened (a : Area) (limit : ℕ) (journal : Extent) (bodies : List (List ℕ)) (o n : Outside) : Type 0 where
   pub area : journal.area ≡ a
   pub limit_is : journal.limit ≡ limit
   pub is_list : IsList bodies (o.reads a)
   pub keeps : Keeps journal bodies n
   pub gate : IsOpen journal n
+  pub clean : n.faults ≡ o.faults
 
 -- A moment before any record of an opening: nothing more is told, and each area has an image of the begin, or one with the list
 -- that it read.
@@ -37,10 +38,11 @@ pub record Opens (k : ℕ) (o n : Outside) : Type 0 where
   pub same_list : (a : Area) → ReadsSameList (o.reads a) (n.reads a)
   pub still : (a : Area) → k ≤ area_number a → n.reads a ≡ o.reads a
 
--- all of these are open, with these journals and lists
+-- all of these are open, with these journals and lists, and no fault was counted
 pub record AreOpened (k limit : ℕ) (js : Journals) (lists : Lists) (o n : Outside) : Type 0 where
   pub opens : Opens k o n
   pub opened : (a : Area) → area_number a < k → IsOpened a limit (js a) (lists a) o n
+  pub clean : n.faults ≡ o.faults
 
 -- each area reads as its list
 abbrev pub AreRead : Lists → Outside → Type 0
@@ -54,10 +56,11 @@ journals_with limit lists a = record { area = a; length = size (lists a) + 1; li
 abbrev pub IsInBegin : ℕ → Lists → List Write → Outside → CrashState → Type 0
 IsInBegin limit lists ws o p = IsInOpening o p ⊎ LeavesPrefix lists (fitting (journals_with limit lists) ws) o p
 
--- All five areas are open with these journals, and the records of the opening are there.
+-- All five areas are open with these journals, the records of the opening are there, and no fault was counted.
 pub record IsBegun (limit : ℕ) (ks : Journals) (ws : List Write) (o n : Outside) : Type 0 where
   pub told : n.told ≡ o.told
   pub ready : AreReady ks n
   pub fits : (lists : Lists) → AreRead lists o → full_in (journals_with limit lists) ws ≡ None
   pub grew : (lists : Lists) → AreRead lists o → ks ≡ all_grown ws (journals_with limit lists)
   pub keeps : (lists : Lists) → AreRead lists o → AreKept ks (puts ws lists) n
+  pub clean : n.faults ≡ o.faults

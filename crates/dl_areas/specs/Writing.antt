@@ -68,8 +68,9 @@ pub record Does (js ks : Journals) (ws : List Write) (fault : Option AppendFault
   -- it is full at the first that does not fit, and those before it are there
   pub full : (f : Full) → fault ≡ Some (appends.Full f) → full_in js ws ≡ Some f
   pub before : (f : Full) → fault ≡ Some (appends.Full f) → (lists : Lists) → AreKept js lists o → AreKept ks (puts (fitting js ws) lists) n
-  -- the device fails only where its count of faults rose
+  -- the device fails only where its count of faults rose, and with no fault none was counted
   pub device : fault ≡ Some appends.Device → FaultCounted o n
+  pub clean : fault ≡ None → n.faults ≡ o.faults
 
 -- A loop that writes all of these records has written those that are not left.
 pub record Doing (js ks : Journals) (all left : List Write) (o n : Outside) : Type 0 where

@@ -78,6 +78,7 @@ pub fn an_append_writes_one_record<B: Bench>()
         → (j.length + 9 + length body ≤ j.limit → IfErr result (λ fault. fault ≡ appends.Device))
         → (j.limit < j.length + 9 + length body → n ≡ o)
         → (result ≡ Err appends.Device → FaultCounted (B.outside o) (B.outside n))
+        → OnOk result ((B.outside n).faults ≡ (B.outside o).faults)
         → DoesAlone j k (write_of j.area body None ∷ []) (result_err result) (B.outside o) (B.outside n) }
     ensures exhausted { (j : Extent) (w : Write) (f : Full) (o : B) → w.exhausted ≡ Some f → DoesAlone j j (w ∷ []) (Some (appends.Full f)) (B.outside o) (B.outside o) }
     ensures none { (j : Extent) (o : B) → DoesAlone j j [] None (B.outside o) (B.outside o) }

@@ -5,6 +5,7 @@ ghost use Rattle.dl_base.specs.Outside.{Outside, ChangesOnly, Says, Torn, overwr
 
 use crate::{Area, Failed};
 
+/// An answer that is Ok counted no fault.
 pub trait Bench {
     /// What stands outside: what the areas read, what a crash may leave, and the time.
     ghost outside: { Self → Outside };
@@ -14,7 +15,8 @@ pub trait Bench {
         ensures value { IfOk result (λ n. ForSome ((outside self.old).reads area) (λ bytes. n ≡ length bytes)) }
         ensures same { (outside self.new).reads area ≡ (outside self.old).reads area }
         ensures crash { ChangesOnly area ((outside self.old).image area) (outside self.old) (outside self.new) }
-        ensures cause { OnErr result (FaultCounted (outside self.old) (outside self.new)) };
+        ensures cause { OnErr result (FaultCounted (outside self.old) (outside self.new)) }
+        ensures clean { OnOk result ((outside self.new).faults ≡ (outside self.old).faults) };
 
     /// Fills the buffer with the area's bytes from there on.
     fn read(&mut self, area: Area, at: u64, into: &mut [u8]) -> Result<(), Failed>
@@ -22,7 +24,8 @@ pub trait Bench {
         ensures value { OnOk result (ForSome ((outside self.old).reads area) (λ bytes. into.new ≡ portion at (length into.old) bytes)) }
         ensures same { (outside self.new).reads area ≡ (outside self.old).reads area }
         ensures crash { ChangesOnly area ((outside self.old).image area) (outside self.old) (outside self.new) }
-        ensures cause { OnErr result (FaultCounted (outside self.old) (outside self.new)) };
+        ensures cause { OnErr result (FaultCounted (outside self.old) (outside self.new)) }
+        ensures clean { OnOk result ((outside self.new).faults ≡ (outside self.old).faults) };
 
     /// Writes over what is there, and past the end. Until a sync, a crash may leave any bytes in the range.
     fn write(&mut self, area: Area, at: u64, bytes: &[u8]) -> Result<(), Failed>
@@ -30,20 +33,23 @@ pub trait Bench {
         requires ends { at + length bytes.now ≤ 2 ^ 63 }
         ensures written { OnOk result ((outside self.new).reads area ≡ overwritten at bytes.now ((outside self.old).reads area)) }
         ensures crash { ChangesOnly area (Torn at (length bytes.now) ((outside self.old).image area)) (outside self.old) (outside self.new) }
-        ensures cause { OnErr result (FaultCounted (outside self.old) (outside self.new)) };
+        ensures cause { OnErr result (FaultCounted (outside self.old) (outside self.new)) }
+        ensures clean { OnOk result ((outside self.new).faults ≡ (outside self.old).faults) };
 
     /// After it, a crash leaves what a read gives.
     fn sync(&mut self, area: Area) -> Result<(), Failed>
         ensures durable { OnOk result ((c : List ℕ) → (outside self.new).image area c → (outside self.old).reads area ≡ Some c) }
         ensures same { (outside self.new).reads area ≡ (outside self.old).reads area }
         ensures crash { ChangesOnly area ((outside self.old).image area) (outside self.old) (outside self.new) }
-        ensures cause { OnErr result (FaultCounted (outside self.old) (outside self.new)) };
+        ensures cause { OnErr result (FaultCounted (outside self.old) (outside self.new)) }
+        ensures clean { OnOk result ((outside self.new).faults ≡ (outside self.old).faults) };
 
     /// Tells bytes. At `Failed` some front of them was told.
     fn say(&mut self, bytes: &[u8]) -> Result<(), Failed>
         ensures told { OnOk result ((outside self.new).told ≡ extended bytes.now (outside self.old).told) }
         ensures crash { Says bytes.now (outside self.old) (outside self.new) }
-        ensures cause { OnErr result (FaultCounted (outside self.old) (outside self.new)) };
+        ensures cause { OnErr result (FaultCounted (outside self.old) (outside self.new)) }
+        ensures clean { OnOk result ((outside self.new).faults ≡ (outside self.old).faults) };
 
     /// The device keeps its laws.
     ghost lawful: { (bench : Self) → IsLawful (outside bench) };

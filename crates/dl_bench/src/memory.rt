@@ -98,6 +98,7 @@ impl Bench for MemoryBench {
         ensures same { (seen self.new).reads area ≡ (seen self.old).reads area }
         ensures crash { ChangesOnly area ((seen self.old).image area) (seen self.old) (seen self.new) }
         ensures cause { OnErr result (FaultCounted (seen self.old) (seen self.new)) }
+        ensures clean { OnOk result ((seen self.new).faults ≡ (seen self.old).faults) }
         ensures due { is_err result ≡ is_due self.old.tally Call.Length }
         ensures after { self.new ≡ asked self.old Call.Length }
     {
@@ -113,6 +114,7 @@ impl Bench for MemoryBench {
         ensures same { (seen self.new).reads area ≡ (seen self.old).reads area }
         ensures crash { ChangesOnly area ((seen self.old).image area) (seen self.old) (seen self.new) }
         ensures cause { OnErr result (FaultCounted (seen self.old) (seen self.new)) }
+        ensures clean { OnOk result ((seen self.new).faults ≡ (seen self.old).faults) }
         ensures due { is_err result ≡ is_due self.old.tally Call.Read }
         ensures after { self.new ≡ asked self.old Call.Read }
         ensures untouched { OnErr result (into.new ≡ into.old) }
@@ -131,6 +133,7 @@ impl Bench for MemoryBench {
         ensures written { OnOk result ((seen self.new).reads area ≡ overwritten at bytes.now ((seen self.old).reads area)) }
         ensures crash { ChangesOnly area (Torn at (length bytes.now) ((seen self.old).image area)) (seen self.old) (seen self.new) }
         ensures cause { OnErr result (FaultCounted (seen self.old) (seen self.new)) }
+        ensures clean { OnOk result ((seen self.new).faults ≡ (seen self.old).faults) }
         ensures due { IsTrue (is_due self.old.tally Call.Write) → IsErr result }
         ensures ok { OnOk result (self.new ≡ added (asked self.old Call.Write) (Write area at bytes.now)) }
         ensures err { OnErr result (self.new ≡ failed self.old Call.Write) }
@@ -152,6 +155,7 @@ impl Bench for MemoryBench {
         ensures same { (seen self.new).reads area ≡ (seen self.old).reads area }
         ensures crash { ChangesOnly area ((seen self.old).image area) (seen self.old) (seen self.new) }
         ensures cause { OnErr result (FaultCounted (seen self.old) (seen self.new)) }
+        ensures clean { OnOk result ((seen self.new).faults ≡ (seen self.old).faults) }
         ensures due { IsTrue (is_due self.old.tally Call.Sync) → IsErr result }
         ensures ok { OnOk result (self.new ≡ added (asked self.old Call.Sync) (Sync area)) }
         ensures err { OnErr result (self.new ≡ failed self.old Call.Sync) }
@@ -173,6 +177,7 @@ impl Bench for MemoryBench {
         ensures told { OnOk result ((seen self.new).told ≡ extended bytes.now (seen self.old).told) }
         ensures crash { Says bytes.now (seen self.old) (seen self.new) }
         ensures cause { OnErr result (FaultCounted (seen self.old) (seen self.new)) }
+        ensures clean { OnOk result ((seen self.new).faults ≡ (seen self.old).faults) }
         ensures due { IsTrue (is_due self.old.tally Call.Say) → IsErr result }
         ensures ok { OnOk result (self.new ≡ added (asked self.old Call.Say) (Say bytes.now)) }
         ensures err { OnErr result (HasFailedSaying bytes.now self.old self.new) }

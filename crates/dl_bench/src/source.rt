@@ -1,5 +1,5 @@
 // A source in memory.
-ghost use Rattle.std.specs.Prelude.{◌≡◌, ◌≤◌, ◌<◌, [], List, ℕ, length, take, drop, min, is_err, Some, IfOk, OnErr};
+ghost use Rattle.std.specs.Prelude.{◌≡◌, ◌≤◌, ◌<◌, [], List, ℕ, length, take, drop, min, is_err, Some, IfOk, OnOk, OnErr};
 ghost use Rattle.dl_base.specs.Sources.{Took, RoseFrom};
 ghost use Rattle.dl_bench.specs.Feeds.{fails_next, taken, missed, is_number};
 
@@ -54,6 +54,7 @@ impl Source for MemorySource {
         ensures end { IfOk result (λ n. n ≡ 0 → 0 < length into.old → (left : List ℕ) → Some self.old.rest ≡ Some left → left ≡ []) }
         ensures never_falls { self.old.faults ≤ self.new.faults }
         ensures cause { OnErr result (RoseFrom self.old.faults self.new.faults) }
+        ensures clean { OnOk result (self.new.faults ≡ self.old.faults) }
         ensures due { is_err result ≡ fails_next self.old }
         ensures most { IfOk result (λ n. n ≡ min (length self.old.rest) (length into.old)) }
         ensures behind { IfOk result (λ n. drop n into.new ≡ drop n into.old) }

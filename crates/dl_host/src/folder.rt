@@ -187,7 +187,7 @@ impl<H: Host + Drop> Bench for FolderBench<H> {
         ensures crash { ChangesOnly area ((H.outside self.old.host).image area) (with_faults self.old.faults (H.outside self.old.host)) (with_faults self.new.faults (H.outside self.new.host)) }
         ensures cause { OnErr result (FaultCounted (with_faults self.old.faults (H.outside self.old.host)) (with_faults self.new.faults (H.outside self.new.host))) }
         ensures exactly { self.new.faults ≡ count_after (is_err result) self.old.faults }
-        ensures clean { OnOk result ((H.outside self.new.host).faults ≡ (H.outside self.old.host).faults) }
+        ensures host_clean { OnOk result ((H.outside self.new.host).faults ≡ (H.outside self.old.host).faults) }
         ensures by_host { OnErr result (FaultCounted (H.outside self.old.host) (H.outside self.new.host) ⊎ NeverLeftAlone (H.interruptions self.new.host)) }
     {
         let answer = self.length_of(area);
@@ -201,7 +201,7 @@ impl<H: Host + Drop> Bench for FolderBench<H> {
         ensures crash { ChangesOnly area ((H.outside self.old.host).image area) (with_faults self.old.faults (H.outside self.old.host)) (with_faults self.new.faults (H.outside self.new.host)) }
         ensures cause { OnErr result (FaultCounted (with_faults self.old.faults (H.outside self.old.host)) (with_faults self.new.faults (H.outside self.new.host))) }
         ensures exactly { self.new.faults ≡ count_after (is_err result) self.old.faults }
-        ensures clean { OnOk result ((H.outside self.new.host).faults ≡ (H.outside self.old.host).faults) }
+        ensures host_clean { OnOk result ((H.outside self.new.host).faults ≡ (H.outside self.old.host).faults) }
         ensures by_host { OnErr result (FaultCounted (H.outside self.old.host) (H.outside self.new.host) ⊎ NeverLeftAlone (H.interruptions self.new.host) ⊎ 2 ^ 64 < at + length into.old) }
     {
         let answer = self.read_from(area, at, into);
@@ -215,7 +215,7 @@ impl<H: Host + Drop> Bench for FolderBench<H> {
         ensures crash { ChangesOnly area (Torn at (length bytes.now) ((H.outside self.old.host).image area)) (with_faults self.old.faults (H.outside self.old.host)) (with_faults self.new.faults (H.outside self.new.host)) }
         ensures cause { OnErr result (FaultCounted (with_faults self.old.faults (H.outside self.old.host)) (with_faults self.new.faults (H.outside self.new.host))) }
         ensures exactly { self.new.faults ≡ count_after (is_err result) self.old.faults }
-        ensures clean { OnOk result ((H.outside self.new.host).faults ≡ (H.outside self.old.host).faults) }
+        ensures host_clean { OnOk result ((H.outside self.new.host).faults ≡ (H.outside self.old.host).faults) }
         ensures by_host { OnErr result (FaultCounted (H.outside self.old.host) (H.outside self.new.host) ⊎ NeverLeftAlone (H.interruptions self.new.host)) }
     {
         let answer = self.write_to(area, at, bytes);
@@ -228,7 +228,7 @@ impl<H: Host + Drop> Bench for FolderBench<H> {
         ensures crash { ChangesOnly area ((H.outside self.old.host).image area) (with_faults self.old.faults (H.outside self.old.host)) (with_faults self.new.faults (H.outside self.new.host)) }
         ensures cause { OnErr result (FaultCounted (with_faults self.old.faults (H.outside self.old.host)) (with_faults self.new.faults (H.outside self.new.host))) }
         ensures exactly { self.new.faults ≡ count_after (is_err result) self.old.faults }
-        ensures clean { OnOk result ((H.outside self.new.host).faults ≡ (H.outside self.old.host).faults) }
+        ensures host_clean { OnOk result ((H.outside self.new.host).faults ≡ (H.outside self.old.host).faults) }
         ensures by_host { OnErr result (FaultCounted (H.outside self.old.host) (H.outside self.new.host) ⊎ NeverLeftAlone (H.interruptions self.new.host)) }
     {
         let answer = self.sync_of(area);
@@ -240,7 +240,7 @@ impl<H: Host + Drop> Bench for FolderBench<H> {
         ensures crash { Says bytes.now (with_faults self.old.faults (H.outside self.old.host)) (with_faults self.new.faults (H.outside self.new.host)) }
         ensures cause { OnErr result (FaultCounted (with_faults self.old.faults (H.outside self.old.host)) (with_faults self.new.faults (H.outside self.new.host))) }
         ensures exactly { self.new.faults ≡ count_after (is_err result) self.old.faults }
-        ensures clean { OnOk result ((H.outside self.new.host).faults ≡ (H.outside self.old.host).faults) }
+        ensures host_clean { OnOk result ((H.outside self.new.host).faults ≡ (H.outside self.old.host).faults) }
         ensures by_host { OnErr result (FaultCounted (H.outside self.old.host) (H.outside self.new.host) ⊎ NeverLeftAlone (H.interruptions self.new.host)) }
     {
         let answer = self.tell(bytes);

@@ -31,7 +31,7 @@ impl<R: Reader + Drop> Source for InputSource<R> {
         ensures bytes { IfOk result (λ n. Took (take n into.new) (R.rest self.old.reader) (R.rest self.new.reader)) }
         ensures end { IfOk result (λ n. n ≡ 0 → 0 < length into.old → (left : List ℕ) → R.rest self.old.reader ≡ Some left → left ≡ []) }
         ensures never_falls { self.old.faults ≤ self.new.faults }
-        ensures clean { OnOk result (R.faults self.new.reader ≡ R.faults self.old.reader) }
+        ensures reader_clean { OnOk result (R.faults self.new.reader ≡ R.faults self.old.reader) }
         ensures cause { OnErr result (RoseFrom self.old.faults self.new.faults) }
         ensures exactly { self.new.faults ≡ count_after (is_err result) self.old.faults }
         ensures by_reader { OnErr result (RoseFrom (R.faults self.old.reader) (R.faults self.new.reader) ⊎ NeverLeftAlone (R.interruptions self.new.reader)) }

@@ -1,6 +1,6 @@
 -- What writes leave of an area, as laws on lists of bytes.
-use Rattle.std.proofs.Common.{◌≡◌, inl, inr, ℕ, ◌+◌, ◌≤◌, ◌<◌, ◌^◌, List, [], ◌∷◌, ◌++◌, length, get_or, take, drop, refl, sym, ◌∙◌, ap, arith, append_assoc, length-append, take-append-drop, Option, Some, None, length-drop}
-use Rattle.std.proofs.lemmas.List.{take_at, drop_at, drop_more, take-take, drop-drop, length-take-le}
+use Rattle.std.proofs.Common.{◌≡◌, inl, inr, ℕ, ◌+◌, ◌≤◌, ◌<◌, ◌^◌, List, [], ◌∷◌, ◌++◌, length, get_or, take, drop, refl, sym, ◌∙◌, ap, arith, append_assoc, length-append, take-append-drop, Option, Some, None, length-drop, Result, Ok, Err, OnOk}
+use Rattle.std.proofs.lemmas.List.{take_at, drop_at, drop_all, drop_more, take-take, drop-drop, length-take-le}
 use Rattle.std.proofs.lemmas.Bool.{cases_eq}
 use Rattle.dl_base.specs.Outside.{TornFrom, replaced, overwritten}
 use Rattle.dl_journal.specs.Records.{blocks, size, IsAtRest, HasOldOrNew}
@@ -31,6 +31,14 @@ no_shorter at bytes s t le is = omega (arith, ap length is, length-replaced at b
 pub was_there : (at : ℕ) (bytes : List ℕ) (o : Option (List ℕ)) (c : List ℕ) → overwritten at bytes o ≡ Some c → (s : List ℕ) × (o ≡ Some s) × (replaced at bytes s ≡ c)
 was_there at bytes None c is = absurd (cc is)
 was_there at bytes (Some s) c is = (s, refl, cc is)
+
+-- the first gate, written over fewer than two bytes and synced, is all that a crash leaves
+pub first_gate : {X E : Type 0} (r : Result X E) (before middle : Option (List ℕ)) (image : List ℕ → Type 0) → ((s : List ℕ) → before ≡ Some s → length s < 2) → middle ≡ overwritten 0 (0 ∷ []) before
+    → OnOk r ((c : List ℕ) → image c → middle ≡ Some c) → OnOk r ((c : List ℕ) → image c → c ≡ 0 ∷ [])
+first_gate (Err e) before middle image short written durable = tt
+first_gate (Ok x) before middle image short written durable = λ c left.
+    let was = was_there 0 (0 ∷ []) before c (sym written ∙ durable c left) in
+    sym was.2 ∙ ap (λ (l : List ℕ). 0 ∷ l) (drop_all 1 was.0 (omega (arith, short was.0 was.1)))
 
 module _ (bodies : List (List ℕ)) where
   split_gate : (gate : ℕ) (rest : List ℕ) → blocks bodies ++ gate ∷ rest ≡ (blocks bodies ++ gate ∷ []) ++ rest

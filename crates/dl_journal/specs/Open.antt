@@ -1,5 +1,5 @@
 -- A journal that is open on a bench.
-use Rattle.std.specs.Prelude.{◌≡◌, ◌⊎◌, ℕ, ◌+◌, ◌<◌, ◌≤◌, ◌^◌, List, length, Option, Some, Ok, Err}
+use Rattle.std.specs.Prelude.{◌≡◌, ◌⊎◌, ℕ, ◌+◌, ◌<◌, ◌≤◌, ◌^◌, List, [], ◌∷◌, length, Option, Some, Ok, Err}
 use Rattle.dl_base.specs.Outside.{Outside, ChangesOnly}
 use Rattle.dl_base.specs.declared.area.Area.{Area}
 use Rattle.dl_journal.specs.Extent.{Extent}
@@ -34,6 +34,10 @@ IsList bodies reads = (told : List ℕ) → reads ≡ Some told → records told
 -- what the area reads is no list, where that is told, and this is the place of the first bad record's gate
 abbrev pub IsNoList : ℕ → Option (List ℕ) → Type 0
 IsNoList place reads = (told : List ℕ) → reads ≡ Some told → records told ≡ Err place
+
+-- where an area read fewer than two bytes, a crash then leaves the closed gate 0 alone
+abbrev pub GetsFirstGate : Option (List ℕ) → (List ℕ → Type 0) → Type 0
+GetsFirstGate before image = (told : List ℕ) → before ≡ Some told → length told < 2 → (c : List ℕ) → image c → c ≡ 0 ∷ []
 
 -- what the area reads then is the list that it read before, where both are told
 abbrev pub ReadsSameList : Option (List ℕ) → Option (List ℕ) → Type 0

@@ -18,6 +18,7 @@ pub fn stage<B: Bench>(bench: &mut B, area: Area, place: u64, body: &[u8]) -> Re
         → AllStaged bodies body.now ((B.outside bench.new).image area)) }
     ensures images { ChangesOnly area (StillAtRest ((B.outside bench.old).image area) place) (B.outside bench.old) (B.outside bench.new) }
     ensures cause { OnErr result (FaultCounted (B.outside bench.old) (B.outside bench.new)) }
+    ensures clean { OnOk result ((B.outside bench.new).faults ≡ (B.outside bench.old).faults) }
 {
     let count = body.len() as u64;
     bench.write(area, place + 1, &count.to_be_bytes())?;
@@ -37,6 +38,7 @@ pub fn open_gate<B: Bench>(bench: &mut B, area: Area, place: u64) -> Result<(), 
         → AllAtRest (bodies ++ body ∷ []) ((B.outside bench.new).image area)) }
     ensures images { ChangesOnly area (HasGateTorn ((B.outside bench.old).image area) place) (B.outside bench.old) (B.outside bench.new) }
     ensures cause { OnErr result (FaultCounted (B.outside bench.old) (B.outside bench.new)) }
+    ensures clean { OnOk result ((B.outside bench.new).faults ≡ (B.outside bench.old).faults) }
 {
     bench.write(area, place, &[1])?;
     bench.sync(area)?;

@@ -1,5 +1,5 @@
 // The device calls of an opening.
-ghost use Rattle.std.specs.Prelude.{◌≡◌, ◌≢◌, ◌≤◌, ◌^◌, [], List, ℕ, length, Some, Err, IfOk, OnOk, OnErr};
+ghost use Rattle.std.specs.Prelude.{◌≡◌, ◌≢◌, ◌≤◌, ◌^◌, [], ◌∷◌, List, ℕ, length, Some, Err, IfOk, OnOk, OnErr};
 ghost use Rattle.dl_base.specs.Outside.{ChangesOnly, FaultCounted};
 ghost use Rattle.dl_journal.specs.Records.{AllAtRest};
 ghost use Rattle.dl_journal.specs.Steps.{AreShort, ShortAfter, HasRead};
@@ -15,6 +15,7 @@ pub fn read_all<B: Bench>(alloc: Global, bench: &mut B, area: Area) -> Result<Ve
     ensures same { (B.outside bench.new).reads area ≡ (B.outside bench.old).reads area }
     ensures images { ChangesOnly area ((B.outside bench.old).image area) (B.outside bench.old) (B.outside bench.new) }
     ensures device { result ≡ Err BeginFault.Device → FaultCounted (B.outside bench.old) (B.outside bench.new) }
+    ensures clean { OnOk result ((B.outside bench.new).faults ≡ (B.outside bench.old).faults) }
     ensures no_other { (place : ℕ) → result ≢ Err (BeginFault.NotAJournal place) }
 {
     bench.sync(area)?;
@@ -24,12 +25,14 @@ pub fn read_all<B: Bench>(alloc: Global, bench: &mut B, area: Area) -> Result<Ve
     Ok(bytes)
 }
 
-/// Writes a closed gate at the begin of an area that has fewer than two bytes, and syncs.
+/// Writes a closed gate, the byte 0, at the begin of an area that has fewer than two bytes, and syncs.
 pub fn write_first_gate<B: Bench>(bench: &mut B, area: Area) -> Result<(), Failed>
     requires short { AreShort ((B.outside bench.old).image area) }
     ensures closed { OnOk result (AllAtRest [] ((B.outside bench.new).image area)) }
     ensures images { ChangesOnly area (ShortAfter ((B.outside bench.old).image area)) (B.outside bench.old) (B.outside bench.new) }
+    ensures first_gate { OnOk result ((c : List ℕ) → (B.outside bench.new).image area c → c ≡ 0 ∷ []) }
     ensures cause { OnErr result (FaultCounted (B.outside bench.old) (B.outside bench.new)) }
+    ensures clean { OnOk result ((B.outside bench.new).faults ≡ (B.outside bench.old).faults) }
 {
     bench.write(area, 0, &[0])?;
     bench.sync(area)

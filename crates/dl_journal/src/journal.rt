@@ -1,6 +1,6 @@
 ghost use Rattle.std.specs.Prelude.{◌≡◌, ◌+◌, ◌-◌, ◌<◌, ◌≤◌, ◌^◌, ◌++◌, [], ◌∷◌, ◌↔◌, List, ℕ, min, length, Err, IfOk, IfErr, OnOk, OnErr};
 ghost use Rattle.dl_base.specs.Outside.{ChangesOnly, FaultCounted};
-ghost use Rattle.dl_journal.specs.Open.{IsOpen, Keeps, grown, IsList, IsNoList, IsOpening, IsUnwritten, ReadsSameList, AddsOne};
+ghost use Rattle.dl_journal.specs.Open.{IsOpen, Keeps, grown, IsList, IsNoList, IsOpening, IsUnwritten, GetsFirstGate, ReadsSameList, AddsOne};
 
 use crate::append::{open_gate, stage};
 use crate::begin::{read_all, write_first_gate};
@@ -30,7 +30,7 @@ impl Model for Journal {
 }
 
 impl Journal {
-    /// Syncs an area, and gives the bodies of its records in order. An area of fewer than two bytes gets a closed gate.
+    /// Syncs an area, and gives the bodies of its records in order. An area of fewer than two bytes gets a closed gate, the byte 0.
     /// Appends fill it up to the limit, in bytes; what stands there already may be longer.
     /// `NotAJournal` has the place, from 0, of the gate of the first record that passes the area's end.
     pub fn begin<B: Bench>(
@@ -51,6 +51,9 @@ impl Journal {
         // Where there are records, nothing was written.
         ensures unwritten { IfOk result (λ r. 0 < length r.1 → IsUnwritten area (B.outside bench.old) (B.outside bench.new)) }
 
+        // An area of fewer than two bytes has the closed gate 0, whatever a crash leaves.
+        ensures first_gate { OnOk result (GetsFirstGate ((B.outside bench.old).reads area) ((B.outside bench.new).image area)) }
+
         // However it ends, the area reads as the list that it was.
         ensures same_list { ReadsSameList ((B.outside bench.old).reads area) ((B.outside bench.new).reads area) }
 
@@ -62,6 +65,7 @@ impl Journal {
         ensures untouched { (place : ℕ) → result ≡ Err (BeginFault.NotAJournal place) → IsUnwritten area (B.outside bench.old) (B.outside bench.new) }
         ensures memory { result ≡ Err BeginFault.Memory → IsUnwritten area (B.outside bench.old) (B.outside bench.new) }
         ensures device { result ≡ Err BeginFault.Device → FaultCounted (B.outside bench.old) (B.outside bench.new) }
+        ensures clean { OnOk result ((B.outside bench.new).faults ≡ (B.outside bench.old).faults) }
     {
         let bytes = read_all(alloc, bench, area)?;
         if bytes.len() < 2 {
@@ -108,6 +112,7 @@ impl Journal {
         ensures room { self.old.length + 9 + length body.now ≤ self.old.limit → IfErr result (λ fault. fault ≡ AppendFault.Device) }
         ensures unwritten { self.old.limit < self.old.length + 9 + length body.now → bench.new ≡ bench.old }
         ensures device { result ≡ Err AppendFault.Device → FaultCounted (B.outside bench.old) (B.outside bench.new) }
+        ensures clean { OnOk result ((B.outside bench.new).faults ≡ (B.outside bench.old).faults) }
     {
         let start = self.place + 10;
         let count = body.len() as u64;

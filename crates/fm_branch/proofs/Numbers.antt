@@ -2,7 +2,7 @@
 use Rattle.std.proofs.Common.{◌≡◌, ℕ, ◌+◌, ◌-◌, ◌≤◌, cond, Some, None, ap, ◌∙◌, arith}
 use Rattle.std.proofs.lemmas.Bool.{lt-ltb}
 use Rattle.dl_base.specs.declared.fault.Full.TheVariants as fulls
-use Rattle.fm_branch.specs.Linked.{most_numbers, opening_full}
+use Rattle.meaning_areas.specs.Full.{most_numbers, opening_full}
 
 pub opening_ends : (n : ℕ) → 4294967294 ≤ n → opening_full (n + 1) ≡ Some (fulls.Openings n)
 opening_ends n le =

@@ -1,11 +1,9 @@
 -- What contracts see of the branches that are open on a bench.
-use Rattle.std.specs.Prelude.{◌≡◌, ℕ, ◌+◌, ◌-◌, ◌^◌, List, [], ◌∷◌, ◌++◌, Option, Some, None, Result, Ok, Err, nat_lt, is_some, true, if◌then◌else◌, refl}
+use Rattle.std.specs.Prelude.{◌≡◌, ℕ, ◌+◌, List, [], ◌∷◌, ◌++◌, Option, Some, None, Result, Ok, Err, is_some, true, refl}
 use Rattle.std.specs.Coded.{Coded, code_by, coded×, coded_ℕ, coded_list}
 use Rattle.std.specs.FinMap as maps
 use Rattle.dl_areas.specs.Lists.{Write, write_of}
 use Rattle.dl_base.specs.declared.area.Area.TheVariants as areas
-use Rattle.dl_base.specs.declared.fault.Full.{Full}
-use Rattle.dl_base.specs.declared.fault.Full.TheVariants as fulls
 use Rattle.dl_codec.specs.Layout.{whole}
 use Rattle.dl_codec.specs.Links.{links_record}
 use Rattle.dl_codec.specs.declared.links.LinksRecord.{LinksRecord}
@@ -14,6 +12,7 @@ use Rattle.dl_journal.specs.Extent.{Extent}
 use Rattle.dl_journal.specs.Records.{records as bodies_in}
 use Rattle.meaning_areas.specs.Areas.{branches_of}
 use Rattle.meaning_areas.specs.Branches.{Branch, Branches, links_step, with_branch}
+use Rattle.meaning_areas.specs.Full.{opening_full}
 use Rattle.fm_branch.specs.Codes.{branches_code}
 use Rattle.fm_branch.specs.Held.{Places, have_places}
 use Rattle.fm_branch.specs.Table.{Table}
@@ -72,14 +71,6 @@ by_bodies (Err place) = Err place
 -- what the bytes of the area stand for, or the place of the first record that is none or that the fold refuses
 abbrev pub links_in : List ℕ → Result Branches ℕ
 links_in told = by_bodies (bodies_in told)
-
--- the greatest number of an opening, and what is full where a next number, n, would pass it
-
-abbrev pub most_numbers : ℕ
-most_numbers = 2 ^ 32 - 2
-
-abbrev pub opening_full : ℕ → Option Full
-opening_full n = if nat_lt most_numbers n then Some (fulls.Openings (n - 1)) else None
 
 -- a record as it is written, and that of the next opening
 

@@ -129,7 +129,7 @@ some-pending (l ∷ ls) n e = (l, ls, refl, same l.link n e)
     same : (a b : LinkNo) → Some a ≡ Some b → a ≡ b
     same a b e = cc
 
-none-found : (o : Option (ℕ × Txn)) → option_map (λ (e : ℕ × Txn). e.0) o ≡ None → o ≡ None
+pub none-found : (o : Option (ℕ × Txn)) → option_map (λ (e : ℕ × Txn). e.0) o ≡ None → o ≡ None
 none-found None e = refl
 none-found (Some x) e = absurd (none_some x.0 (sym e))
 

@@ -72,6 +72,10 @@ abbrev pub phase_at : Option Seat → Phase
 phase_at None = phases.Dropped
 phase_at (Some x) = phase_of x.stage
 
+-- the session has a transaction, which is active
+abbrev pub IsAtWork : Seated → Transaction → Type 0
+IsAtWork seats v = (tx : ℕ) × (v.tx ≡ Some tx) × (phase_at (maps.get seats tx) ≡ phases.Active)
+
 abbrev pub is_doomed_at : ℕ → Seat → Bool
 is_doomed_at opening x = is_active (phase_of x.stage) && differs x.claim.seen opening
 

@@ -94,6 +94,7 @@ impl Engine {
         requires stands { (first : ℕ) × (s : State) × (n : Numbers) × CanStore first self.old s n copy }
         ensures steps { (first : ℕ) (s : State) (n : Numbers) → CanStore first self.old s n copy → Steps first (steps.Archive n) s self.old self.new result (B.outside bench.old) (B.outside bench.new) }
         ensures spelled { (first : ℕ) (s : State) (n : Numbers) → CanStore first self.old s n copy → AreSpelled (writes s (steps.Archive n)) }
+        ensures never { result ≢ Err StepFault.Memory }
     {
         claims_behind_other_steps();
         each_step_leads_on();

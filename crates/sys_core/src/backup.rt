@@ -28,6 +28,7 @@ impl Engine {
         requires stands { (first : ℕ) × (s : State) × IsOf first self.old s }
         ensures steps { (first : ℕ) (s : State) → IsOf first self.old s → Steps first steps.Backup s self.old self.new result (B.outside bench.old) (B.outside bench.new) }
         ensures spelled { result ≢ Err StepFault.Memory → (first : ℕ) (s : State) → IsOf first self.old s → AreSpelled (writes s steps.Backup) }
+        ensures memory { result ≡ Err StepFault.Memory → (first : ℕ) (s : State) → IsOf first self.old s → unfinished s ≡ None }
     {
         calls_follow_one_another::<B>();
         if let Some(tx) = self.seats.unfinished() {

@@ -1,10 +1,10 @@
 // A transaction begins.
-ghost use Rattle.std.specs.Prelude.{◌≡◌, ◌+◌, ℕ, [], None, OnOk, OnErr};
+ghost use Rattle.std.specs.Prelude.{◌≡◌, ◌+◌, ℕ, [], Err, None, OnOk, OnErr};
 ghost use Rattle.std.specs.FinMap as maps;
-ghost use Rattle.db_store.specs.Store.{draw_full};
 ghost use Rattle.db_txn.specs.Transaction.{begun, vacant};
 ghost use Rattle.dl_base.specs.declared.step.Step.TheVariants as steps;
 ghost use Rattle.meaning_areas.specs.Commits.{tables_after};
+ghost use Rattle.meaning_areas.specs.Full.{draw_full};
 ghost use Rattle.meaning_system.specs.State.{State};
 ghost use Rattle.meaning_tables.specs.Fits.{RowsFit};
 ghost use Rattle.sys_core.specs.Seated.{HasTxn};
@@ -28,6 +28,7 @@ impl Engine {
         requires { (first : ℕ) × (s : State) × IsOf first self.old s × HasTxn s txn.old }
         ensures steps { (first : ℕ) (s : State) → IsOf first self.old s → HasTxn s txn.old → StepsInMemory first (steps.Begin txn.old.session) s self.old self.new result }
         ensures shows { (first : ℕ) (s : State) → IsOf first self.old s → HasTxn s txn.old → Shows (steps.Begin txn.old.session) s txn.old txn.new result }
+        ensures memory { result ≡ Err StepFault.Memory → (txn.old.tx ≡ None) × (draw_full (self.old.owners.store.drawn + 1) ≡ None) }
     {
         each_step_leads_on();
         claims_behind_steps_of_a_session();

@@ -5,7 +5,7 @@ ghost use Rattle.dl_base.specs.declared.step.Step.TheVariants as steps;
 ghost use Rattle.fm_manager.specs.Managed.{AreSpelled};
 ghost use Rattle.meaning_system.specs.State.{State};
 ghost use Rattle.meaning_system.specs.Writes.{writes};
-ghost use Rattle.sys_core.specs.Seated.{HasTxn};
+ghost use Rattle.sys_core.specs.Seated.{HasTxn, IsAtWork};
 ghost use Rattle.sys_core.specs.Standing.{IsOf};
 ghost use Rattle.sys_core.specs.Steps.{Shows, Steps};
 ghost use Rattle.sys_owners.specs.Owned.{journals_of};
@@ -27,6 +27,7 @@ impl Engine {
         ensures steps { (first : ℕ) (s : State) → IsOf first self.old s → HasTxn s txn.old → Steps first (steps.Prepare txn.old.session) s self.old self.new result (B.outside bench.old) (B.outside bench.new) }
         ensures shows { (first : ℕ) (s : State) → IsOf first self.old s → HasTxn s txn.old → Shows (steps.Prepare txn.old.session) s txn.old txn.new result }
         ensures spelled { result ≢ Err StepFault.Memory → (first : ℕ) (s : State) → IsOf first self.old s → HasTxn s txn.old → AreSpelled (writes s (steps.Prepare txn.old.session)) }
+        ensures memory { result ≡ Err StepFault.Memory → IsAtWork self.old.seats txn.old }
     {
         calls_follow_one_another::<B>();
         let Some(tx) = txn.tx() else {

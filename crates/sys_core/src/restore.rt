@@ -48,6 +48,7 @@ impl Engine {
 
         // Where no number is left to draw nothing is written.
         ensures spelled { result ≢ Err StepFault.Memory → (first : ℕ) (s : State) → IsOf first self.old s → first_session s ≡ busy → draw_full (s.drawn + 1) ≡ None → AreSpelled (writes s (steps.Restore target)) }
+        ensures memory { result ≡ Err StepFault.Memory → busy ≡ None }
     {
         calls_follow_one_another::<B>();
         if let Some(session) = busy {

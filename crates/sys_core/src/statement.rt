@@ -1,10 +1,10 @@
 // A statement of plain SQL in a transaction.
-ghost use Rattle.std.specs.Prelude.{◌≡◌, ℕ, true, IfOk};
+ghost use Rattle.std.specs.Prelude.{◌≡◌, ℕ, true, Err, IfOk};
 ghost use Rattle.db_txn.specs.Transaction.{is_plain, standing};
 ghost use Rattle.dl_base.specs.declared.step.Step.TheVariants as steps;
 ghost use Rattle.meaning_system.specs.State.{State};
 ghost use Rattle.sys_core.specs.Claiming.{told_of};
-ghost use Rattle.sys_core.specs.Seated.{HasTxn};
+ghost use Rattle.sys_core.specs.Seated.{HasTxn, IsAtWork};
 ghost use Rattle.sys_core.specs.Standing.{IsOf};
 ghost use Rattle.sys_core.specs.Steps.{Shows, StepsInMemory};
 
@@ -27,6 +27,7 @@ impl Engine {
         requires stands { (first : ℕ) × (s : State) × IsOf first self.old s × HasTxn s txn.old }
         ensures steps { (first : ℕ) (s : State) → IsOf first self.old s → HasTxn s txn.old → StepsInMemory first (steps.Statement txn.old.session stmt.now) s self.old self.new result }
         ensures shows { (first : ℕ) (s : State) → IsOf first self.old s → HasTxn s txn.old → Shows (steps.Statement txn.old.session stmt.now) s txn.old txn.new result }
+        ensures memory { result ≡ Err StepFault.Memory → IsAtWork self.old.seats txn.old }
     {
         each_step_leads_on();
         claims_answer_as_a_search_does();

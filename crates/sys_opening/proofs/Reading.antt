@@ -1,23 +1,28 @@
 -- What areas stand for that are open.
-use Rattle.std.proofs.Common.{◌≡◌, inr, ◌+◌, ◌<◌, ℕ, List, Result, Ok, sym, ◌∙◌, ap, arith}
+use Rattle.std.proofs.Common.{◌≡◌, inr, ◌+◌, ◌<◌, ℕ, List, Some, Result, Ok, refl, sym, ◌∙◌, ap, subst, arith}
 use Rattle.bk_backup.specs.Saved as backups_area
 use Rattle.db_store.specs.Store as rows_area
-use Rattle.dl_areas.specs.Lists.{Journals, Lists}
-use Rattle.dl_areas.specs.Opening.{AreOpened}
+use Rattle.dl_areas.specs.Lists.{AreKept, HasLists, Journals, Lists, puts}
+use Rattle.dl_areas.specs.Opening.{AreOpened, journals_with}
+use Rattle.dl_areas.specs.Writing.{Does, fitting}
 use Rattle.dl_base.specs.Areas.{area_number}
-use Rattle.dl_base.specs.Outside.{Outside}
+use Rattle.dl_base.specs.Outside.{CrashState, Now, Outside}
 use Rattle.dl_base.specs.declared.area.Area.{Area}
 use Rattle.dl_base.specs.declared.area.Area.TheVariants as areas
+use Rattle.dl_base.specs.declared.fault.AppendFault.TheVariants as appends
+use Rattle.dl_base.specs.declared.fault.Full.{Full}
 use Rattle.dl_journal.specs.Records.{records, size}
 use Rattle.fm_archive.specs.Stock as copies_area
 use Rattle.fm_branch.specs.Linked as links_area
+use Rattle.fm_manager.specs.Managed.{as_writes}
 use Rattle.meaning_areas.specs.Areas.{Areas, AreasStand, IsUnlike, StandForNothing, area_length, backups_of, branches_of, bytes_of, copies_of, folds_of, listed, rows_of}
 use Rattle.meaning_areas.specs.FilesArea.{files_of}
 use Rattle.meaning_areas.specs.Lists.{Folds}
 use Rattle.meaning_areas.specs.Stands.{IsStand, stored_of}
 use Rattle.meaning_files.specs.Files.{Files}
+use Rattle.meaning_system.specs.Writes.{opening}
 use Rattle.sys_opening.specs.Begun.{AreFound}
-use Rattle.sys_owners.specs.Owned.{AreFolded, AreTold}
+use Rattle.sys_owners.specs.Owned.{AreFolded, AreTold, Owned, journals_of}
 use Rattle.sys_owners.proofs.Reading.{all-read, read-ok}
 
 under : (a : Area) → area_number a < 5
@@ -53,3 +58,22 @@ module _ (limit : ℕ) (js : Journals) (lists : Lists) (o n : Outside) (all : Ar
   -- and they are found
   pub found-told : (f : Folds) → AreFolded lists f → IsStand f (stored_of f) → AreFound lists f o
   found-told f folded stand = record { read = λ a. (bytes_of x a, told a, list-at a); folded = folded; stand = stand }
+
+-- each owner has the journal of its area
+pub its-area : (w : Owned) (a : Area) → (journals_of w a).area ≡ a
+its-area w areas.Rows = refl
+its-area w areas.Links = refl
+its-area w areas.Files = refl
+its-area w areas.Archive = refl
+its-area w areas.Backups = refl
+
+-- a record of the opening has no room: a crash leaves those before it, behind the lists that were read
+pub full-there : (limit : ℕ) (js : Journals) (u : Owned) (lists read : Lists) (f h : Folds) (m n : Outside) (full : Full) → js ≡ journals_with limit lists → lists ≡ read → f ≡ h → AreKept js lists m
+    → Does js (journals_of u) (as_writes (opening f)) (Some (appends.Full full)) m n → (p : CrashState) → Now n p → HasLists (puts (fitting (journals_with limit read) (as_writes (opening h))) read) p
+full-there limit js u lists read f h m n full journals is folds kept does p now =
+    subst (λ (g : Folds). HasLists (puts (fitting (journals_with limit read) (as_writes (opening g))) read) p) folds
+    (subst (λ (ls : Lists). HasLists (puts (fitting (journals_with limit ls) (as_writes (opening f))) ls) p) is
+    (subst (λ (ks : Journals). HasLists (puts (fitting ks (as_writes (opening f))) lists) p) journals there))
+  where
+    there : HasLists (puts (fitting js (as_writes (opening f))) lists) p
+    there a = (does.before full refl lists kept a).images (p.areas a) (let I : Area → Type 0 = λ b. n.image b (p.areas a) in subst I (sym (its-area u a)) (now.areas a))

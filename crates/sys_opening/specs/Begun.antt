@@ -1,5 +1,5 @@
 -- What an opening of five areas leaves.
-use Rattle.std.specs.Prelude.{◌≡◌, ◌⊎◌, ◌≤◌, ℕ, List, ◌++◌, Some}
+use Rattle.std.specs.Prelude.{◌≡◌, ◌⊎◌, ℕ, List, ◌++◌, Some}
 use Rattle.dl_areas.specs.Lists.{Lists, puts, AreKept, HasLists}
 use Rattle.dl_areas.specs.Opening.{AreRead, IsBegun, IsInOpening}
 use Rattle.dl_base.specs.Outside.{Outside, CrashState}
@@ -22,12 +22,11 @@ pub record AreFound (lists : Lists) (f : Folds) (o : Outside) : Type 0 where
 
 -- THE SYSTEM HAS BEGUN over lists that stand for this, which are those that the areas read: the records of the opening, and no others,
 -- are behind them; what the owners have in memory is what all of them lead to; and with that the machine begins its run, whatever
--- settings it is given.
+-- settings it is given. No fault was counted on the way.
 pub record HasBegun (limit : ℕ) (lists : Lists) (f : Folds) (w : Owned) (o n : Outside) : Type 0 where
   pub read : (told : Lists) → AreRead told o → lists ≡ told
   -- areas that are told as bytes are those that were found
   pub found : (x : Areas) → AreTold x o → AreFound lists f o
-  pub faults : o.faults ≤ n.faults
   pub folded : AreFolded lists f
   pub stand : IsStand f (stored_of f)
   pub begun : IsBegun limit (journals_of w) (as_writes (opening f)) o n

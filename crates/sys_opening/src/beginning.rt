@@ -1,10 +1,10 @@
 // A system begins.
 ghost use Rattle.std.specs.Prelude.{◌≡◌, ◌≤◌, ◌^◌, ℕ, Err, IfOk, Some, OnOk};
 ghost use Rattle.std.specs.Result.{result_err};
-ghost use Rattle.dl_areas.specs.Lists.{AreReady, Lists};
+ghost use Rattle.dl_areas.specs.Lists.{AreReady, HasLists, Lists, puts};
 ghost use Rattle.dl_areas.specs.Opening.{AreRead, IsInBegin, IsInOpening, journals_with};
-ghost use Rattle.dl_areas.specs.Writing.{full_in};
-ghost use Rattle.dl_base.specs.Outside.{AtEveryMoment, FaultCounted};
+ghost use Rattle.dl_areas.specs.Writing.{fitting, full_in};
+ghost use Rattle.dl_base.specs.Outside.{AtEveryMoment, CrashState, FaultCounted, Now};
 ghost use Rattle.dl_base.specs.declared.area.Area.{Area as Areas_};
 ghost use Rattle.dl_base.specs.declared.fault.Full.{Full as Fulls};
 ghost use Rattle.fm_manager.specs.Managed.{as_writes};
@@ -63,8 +63,9 @@ pub fn begin<B: Bench>(alloc: Global, bench: &mut B, limit: u64) -> Result<Owner
     // Where the areas stand for nothing, no record of the opening is written, however it ends.
     ensures unopened { (x : Areas) → AreTold x (B.outside bench.old) → ((s : Stored) → AreasStand x s → ⊥) → AtEveryMoment (IsInOpening (B.outside bench.old)) (B.outside bench.old) (B.outside bench.new) }
 
-    // It is full at the first record of the opening that does not fit.
+    // It is full at the first record of the opening that does not fit, and a crash leaves those before it.
     ensures full { (full : Fulls) → result ≡ Err (OpenFault.Full full) → (lists : Lists) (f : Folds) → AreFound lists f (B.outside bench.old) → full_in (journals_with limit lists) (as_writes (opening f)) ≡ Some full }
+    ensures there { (full : Fulls) → result ≡ Err (OpenFault.Full full) → (lists : Lists) (f : Folds) → AreFound lists f (B.outside bench.old) → (p : CrashState) → Now (B.outside bench.new) p → HasLists (puts (fitting (journals_with limit lists) (as_writes (opening f))) lists) p }
     ensures stands { (full : Fulls) → result ≡ Err (OpenFault.Full full) → (lists : Lists) → AreRead lists (B.outside bench.old) → (f : Folds) × AreFound lists f (B.outside bench.old) }
     ensures found { (full : Fulls) → result ≡ Err (OpenFault.Full full) → (x : Areas) → AreTold x (B.outside bench.old) → (lists : Lists) × (f : Folds) × AreFound lists f (B.outside bench.old) }
     ensures device { result ≡ Err OpenFault.Device → FaultCounted (B.outside bench.old) (B.outside bench.new) }

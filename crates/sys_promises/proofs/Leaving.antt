@@ -26,6 +26,7 @@ use Rattle.meaning_system.specs.Writes.{opening, writes}
 use Rattle.sys_core.specs.Standing.{IsOf}
 use Rattle.sys_core.specs.Steps.{Steps, draws, records_of}
 use Rattle.sys_core.specs.declared.engine.Engine.{Engine}
+use Rattle.sys_opening.proofs.Reading.{its-area}
 use Rattle.sys_opening.specs.Begun.{HasBegun}
 use Rattle.sys_owners.specs.Owned.{Owned, folds_in, journals_of}
 use Rattle.sys_recovery.specs.Left.{IsAtomic, areas_of, has_commit}
@@ -33,14 +34,6 @@ use Rattle.sys_run.proofs.Images.{Drawn, Laws, all-written, drawn, draws-is, exh
 use Rattle.sys_run.proofs.Stepping.{Leads, Owes}
 use Rattle.sys_run.specs.Turning.{LeavesSome}
 use Rattle.sys_promises.specs.Taken.{AllRecover, EngineStands, IsBeforeOrBehind, RecoverAlike, Throughout, Took}
-
--- each journal is that of its area
-its-area : (w : Owned) (a : Area) → (journals_of w a).area ≡ a
-its-area w areas.Rows = refl
-its-area w areas.Links = refl
-its-area w areas.Files = refl
-its-area w areas.Archive = refl
-its-area w areas.Backups = refl
 
 -- what a crash leaves now is an image of the area of each journal
 image-of : (w : Owned) (o : Outside) (p : CrashState) → Now o p → (a : Area) → o.image (journals_of w a).area (p.areas a)

@@ -3,7 +3,6 @@ ghost use Rattle.std.specs.Prelude.{◌≡◌, ◌≢◌, ◌⊎◌, ◌+◌, �
 ghost use Rattle.std.specs.Result.{result_err};
 ghost use Rattle.db_changes.specs.Handles.{NewLast};
 ghost use Rattle.db_replay.specs.Applying.{new_by, new_in};
-ghost use Rattle.db_store.specs.Store.{draw_full};
 ghost use Rattle.dl_areas.specs.Lists.{AreReady};
 ghost use Rattle.dl_areas.specs.Writing.{Does, Ends};
 ghost use Rattle.dl_base.specs.Limits.{most_tables};
@@ -11,6 +10,7 @@ ghost use Rattle.dl_base.specs.declared.answer.Answer.TheVariants as answers;
 ghost use Rattle.dl_codec.specs.Rows.{rows_record};
 ghost use Rattle.dl_codec.specs.declared.rows.RowsRecord.TheVariants as records;
 ghost use Rattle.fm_manager.specs.Managed.{AreSpelled, Roomier, as_writes};
+ghost use Rattle.meaning_areas.specs.Full.{draw_full};
 ghost use Rattle.meaning_areas.specs.Lists.{folds_on};
 ghost use Rattle.meaning_areas.specs.Stands.{kept_of};
 ghost use Rattle.meaning_settling.specs.Settling as settling;

@@ -31,7 +31,7 @@ use Rattle.sys_opening.specs.Halting.{HaveSpellings}
 use Rattle.sys_owners.proofs.InARow.{taken-first}
 use Rattle.sys_owners.specs.Owned.{AreFolded}
 use Rattle.sys_reopening.proofs.Finding.{left-told}
-use Rattle.sys_reopening.specs.Managing.{IsFront, LeadsOn, StandsOver}
+use Rattle.sys_reopening.specs.Managing.{LeadsOn, LeavesLed, StandsOver}
 
 -- records that have a spelling are read again, as it is promised
 abbrev pub MoreFolded : Type 0
@@ -54,7 +54,7 @@ no-front (x ∷ front) rest is = absurd (nothing x (front ++ rest) is)
 
 -- THE FIRST OF THE RECORDS
 module _ (more : MoreFolded) (lists : Lists) (f : Folds) (xs : List Written) (js : Journals) (o : Outside) (folded : AreFolded lists f) where
-  pub front-of : is_some (folds_on (Some f) xs) ≡ true → HaveSpellings xs → (p : CrashState) → LeavesPrefix lists (fitting js (as_writes xs)) o p → IsFront lists f xs o p
+  pub front-of : is_some (folds_on (Some f) xs) ≡ true → HaveSpellings xs → (p : CrashState) → LeavesPrefix lists (fitting js (as_writes xs)) o p → LeavesLed lists f xs o p
   front-of taken have p left =
       let first = fitting-front xs js have left.prefix left.rest left.parts in
       let later = the_some (folds_on (Some f) first.front) (taken-first f first.front first.rest (subst (λ (ys : List Written). is_some (folds_on (Some f) ys) ≡ true) (sym first.parts) taken)) in
@@ -73,7 +73,7 @@ module _ (more : MoreFolded) (lists : Lists) (f : Folds) (xs : List Written) (js
       }
 
 -- none of them is one of their fronts
-pub front-none : (lists : Lists) (f : Folds) (xs : List Written) (o : Outside) (p : CrashState) → IsFront lists f [] o p → IsFront lists f xs o p
+pub front-none : (lists : Lists) (f : Folds) (xs : List Written) (o : Outside) (p : CrashState) → LeavesLed lists f [] o p → LeavesLed lists f xs o p
 front-none lists f xs o p i = record {
   told = i.told;
   front = i.front;
@@ -106,9 +106,9 @@ module _ (more : MoreFolded) (lists : Lists) (rows : Commits) (backups : List Ba
   f = folds_with rows backups m
 
   module _ (n : Managed) (xs : List Written) (taken : is_some (folds_on (Some (folds_with rows backups m)) xs) ≡ true) where
-    pub does-moments : (fault : Option AppendFault) → HaveSpellings xs → Does js (with_managed n js) (as_writes xs) fault o e → AtEveryMoment (IsFront lists (folds_with rows backups m) xs o) o e
+    pub does-moments : (fault : Option AppendFault) → HaveSpellings xs → Does js (with_managed n js) (as_writes xs) fault o e → AtEveryMoment (LeavesLed lists (folds_with rows backups m) xs o) o e
     does-moments fault have does =
-        moments_more (LeavesPrefix lists (fitting js (as_writes xs)) o) (IsFront lists f xs o) o e (front-of more lists f xs js o over.folded taken have) (does.images lists over.kept)
+        moments_more (LeavesPrefix lists (fitting js (as_writes xs)) o) (LeavesLed lists f xs o) o e (front-of more lists f xs js o over.folded taken have) (does.images lists over.kept)
 
     pub does-done : HaveSpellings xs → FoldsTo m n xs → Does js (with_managed n js) (as_writes xs) None o e → StandsOver (puts (as_writes xs) lists) rows backups (with_managed n js) n e
     does-done have folds does = record {
@@ -125,9 +125,9 @@ module _ (more : MoreFolded) (lists : Lists) (rows : Commits) (backups : List Ba
     }
 
     -- one that took no memory wrote none
-    memory-moments : Does js (with_managed n js) [] None o e → AtEveryMoment (IsFront lists (folds_with rows backups m) xs o) o e
+    memory-moments : Does js (with_managed n js) [] None o e → AtEveryMoment (LeavesLed lists (folds_with rows backups m) xs o) o e
     memory-moments does =
-        moments_more (LeavesPrefix lists (fitting js []) o) (IsFront lists f xs o) o e (λ p left. front-none lists f xs o p (front-of more lists f [] js o over.folded refl tt p left)) (does.images lists over.kept)
+        moments_more (LeavesPrefix lists (fitting js []) o) (LeavesLed lists f xs o) o e (λ p left. front-none lists f xs o p (front-of more lists f [] js o over.folded refl tt p left)) (does.images lists over.kept)
 
     pub ends-lead : (fault : Option StepFault) → (fault ≢ Some steps.Memory → HaveSpellings xs) → (fault ≡ None → FoldsTo m n xs) → Ends js (with_managed n js) (as_writes xs) fault o e → LeadsOn lists rows backups js m n xs (fault ≡ None) o e
     ends-lead None have folds does = record { moments = does-moments None (have no-memory) does; done = λ none. does-done (have no-memory) (folds none) does }
@@ -136,10 +136,10 @@ module _ (more : MoreFolded) (lists : Lists) (rows : Commits) (backups : List Ba
     ends-lead (Some steps.Memory) have folds does = record { moments = memory-moments does; done = λ none. absurd (some-fault steps.Memory none) }
 
   -- WHATEVER A CRASH LEAVES since its begin
-  pub front-since : (xs : List Written) → IsLawful o → AtEveryMoment (IsFront lists (folds_with rows backups m) xs o) o e → (p : CrashState) → e.since o.moment p → IsFront lists (folds_with rows backups m) xs o p
-  front-since xs lawful moments p left = since_begin (IsFront lists f xs o) o e lawful moments first p left
+  pub front-since : (xs : List Written) → IsLawful o → AtEveryMoment (LeavesLed lists (folds_with rows backups m) xs o) o e → (p : CrashState) → e.since o.moment p → LeavesLed lists (folds_with rows backups m) xs o p
+  front-since xs lawful moments p left = since_begin (LeavesLed lists f xs o) o e lawful moments first p left
     where
-      first : (q : CrashState) → Now o q → IsFront lists f xs o q
+      first : (q : CrashState) → Now o q → LeavesLed lists f xs o q
       first q now = front-none lists f xs o q (front-of more lists f [] js o over.folded refl tt q (prefix-first js lists (fitting js []) o over.ready over.kept q now))
 
 -- WHAT HAS A SPELLING

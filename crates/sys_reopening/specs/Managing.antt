@@ -20,7 +20,7 @@ pub record StandsOver (lists : Lists) (rows : Commits) (backups : List Backup) (
 
 -- A MOMENT OF A CALL that writes these records over lists that stand for this: the areas have the lists with the first of the records, and
 -- read as what these lead to; and nothing more was told
-pub record IsFront (lists : Lists) (f : Folds) (xs : List Written) (o : Outside) (p : CrashState) : Type 0 where
+pub record LeavesLed (lists : Lists) (f : Folds) (xs : List Written) (o : Outside) (p : CrashState) : Type 0 where
   pub told : o.told ≡ Some p.told
   pub front : List Written
   pub rest : List Written
@@ -34,5 +34,5 @@ pub record IsFront (lists : Lists) (f : Folds) (xs : List Written) (o : Outside)
 -- A CALL OF THE MANAGER LEADS ON: each of its moments is such a one; and where it ends with no fault, all of its records are there and the
 -- manager behind it stands over the lists with them
 pub record LeadsOn (lists : Lists) (rows : Commits) (backups : List Backup) (js : Journals) (m n : Managed) (xs : List Written) (NoFault : Type 0) (o e : Outside) : Type 0 where
-  pub moments : AtEveryMoment (IsFront lists (folds_with rows backups m) xs o) o e
+  pub moments : AtEveryMoment (LeavesLed lists (folds_with rows backups m) xs o) o e
   pub done : NoFault → StandsOver (puts (as_writes xs) lists) rows backups (with_managed n js) n e

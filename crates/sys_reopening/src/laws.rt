@@ -32,7 +32,7 @@ ghost use Rattle.sys_opening.specs.Halting.{HaveSpellings};
 ghost use Rattle.sys_owners.specs.Owned.{AreFolded, AreTold, Owned, folds_in};
 ghost use Rattle.sys_recovery.specs.Left.{areas_of};
 ghost use Rattle.sys_reopening.specs.Again.{EveryImageStands, EveryImageStandsAlike, ReadsAs, StandAlike};
-ghost use Rattle.sys_reopening.specs.Managing.{IsFront, LeadsOn, StandsOver};
+ghost use Rattle.sys_reopening.specs.Managing.{LeadsOn, LeavesLed, StandsOver};
 
 use dl_areas::an_opening_finds_the_lists_of_its_begin;
 use dl_base::Bench;
@@ -122,7 +122,7 @@ pub fn the_manager_at_each_moment<B: Bench>()
         → (fault ≡ None → FoldsTo m n (manager_part pieces.tx phase moved (kept_in m))) → Manages m n (as_writes (manager_part pieces.tx phase moved (kept_in m))) fault (B.outside o) (B.outside e)
         → LeadsOn lists rows backups js m n (manager_part pieces.tx phase moved (kept_in m)) (fault ≡ None) (B.outside o) (B.outside e) }
     ensures crash { (lists : Lists) (rows : Commits) (backups : List Backup) (js : Journals) (m : Managed) (xs : List Written) (o e : B) → StandsOver lists rows backups js m (B.outside o)
-        → AtEveryMoment (IsFront lists (folds_with rows backups m) xs (B.outside o)) (B.outside o) (B.outside e) → (p : CrashState) → (B.outside e).since (B.outside o).moment p → IsFront lists (folds_with rows backups m) xs (B.outside o) p }
+        → AtEveryMoment (LeavesLed lists (folds_with rows backups m) xs (B.outside o)) (B.outside o) (B.outside e) → (p : CrashState) → (B.outside e).since (B.outside o).moment p → LeavesLed lists (folds_with rows backups m) xs (B.outside o) p }
 {
     what_is_written_is_read();
 }

@@ -30,10 +30,11 @@ pub record Reached (number : ℕ) (line : Line) (waiting : List LinkNo) (done : 
   pub same : (after count r).lines ≡ r.lines
   pub pace : Pace line waiting done (after count r).state
   pub moments : AtEveryMoment (IsInRun js lists r before) o m
+  pub clean : m.faults ≡ o.faults
 
 pub reached-first : (number : ℕ) (line : Line) (waiting : List LinkNo) (first : ℕ) (lists : Lists) (before : Option (List ℕ)) (r : Run) (l : Read) (more : List Read) (w : Engine) (v : Sessions) (o : Outside) → Stands first lists before r w v o → IsInLine number line [] r l more → Pace line waiting [] r.state
     → Reached number line waiting [] first lists before r l more (journals_of w.owners) w v o o
-reached-first number line waiting first lists before r l more w v o s is pace = record { count = 0; stands = s; grown = record { grew = refl; fits = none-full (journals_of w.owners) }; is = is; same = refl; pace = pace; moments = moments_none (IsInRun (journals_of w.owners) lists r before) o }
+reached-first number line waiting first lists before r l more w v o s is pace = record { count = 0; stands = s; grown = record { grew = refl; fits = none-full (journals_of w.owners) }; is = is; same = refl; pace = pace; moments = moments_none (IsInRun (journals_of w.owners) lists r before) o; clean = refl }
 
 -- a turn that takes a step
 turn-longer : (r : Run) (x : Step) → next_step r ≡ Some x → length (turn r).answers ≡ length r.answers + 1
@@ -98,8 +99,8 @@ module _ {number : ℕ} {line : Line} {waiting : List LinkNo} {done : List Answe
 
   -- one more step
   pub reached-next : StoresEach → Few → r.answers ≡ [] → (x : Engine) (now : Sessions) (n : Outside) (later : List Answer) → StandsAfter 1 first lists-at before at x now n → HasGrown 1 at (journals_of w.owners) x → GoesOn number line later at l more
-      → AtEveryMoment (IsInRun (journals_of w.owners) lists-at at before) m n → Reached number line waiting later first lists before r l more js x now o n
-  reached-next each few none x now n later s grown goes moments = record {
+      → AtEveryMoment (IsInRun (journals_of w.owners) lists-at at before) m n → n.faults ≡ m.faults → Reached number line waiting later first lists before r l more js x now o n
+  reached-next each few none x now n later s grown goes moments clean = record {
     count = reached.count + 1;
     stands = later-stands follow reached.count 1 r first lists before x now n s;
     grown = later-grown follow reached.count 1 r js w x reached.grown grown;
@@ -107,6 +108,7 @@ module _ {number : ℕ} {line : Line} {waiting : List LinkNo} {done : List Answe
     same = ap (λ (q : Run). q.lines) (sym (follow.runs reached.count 1 r)) ∙ goes.is.lines ∙ sym reached.is.lines ∙ reached.same;
     pace = subst (λ (q : Run). Pace line waiting later q.state) (follow.runs reached.count 1 r) (paced each few none later goes);
     moments = reached-moments n moments;
+    clean = clean ∙ reached.clean;
   }
 
   -- it is told

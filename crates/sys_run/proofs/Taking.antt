@@ -18,6 +18,7 @@ use Rattle.meaning_script.specs.Expansion.{Then, does, given, expansion}
 use Rattle.meaning_script.specs.Printed.{line_text}
 use Rattle.meaning_script.specs.declared.kind.Line.{Line}
 use Rattle.meaning_system.specs.Machine.{step}
+use Rattle.meaning_system.specs.State.{State}
 use Rattle.meaning_system.specs.Writes.{writes}
 use Rattle.sys_core.specs.Steps.{Steps, draws}
 use Rattle.sys_core.specs.declared.engine.Engine.{Engine}
@@ -42,6 +43,11 @@ full-no-memory result f is e = absurd cc
 -- one fault in two results
 pub same-fault : {A : Type 0} {X : Type 0} (result : Result A StepFault) (now : Result X StepFault) (g f : StepFault) → result ≡ Err g → now ≡ Err g → now ≡ Err f → result ≡ Err f
 same-fault result now g f was is full = cc
+
+-- a step that is answered counted no fault
+pub steps-clean : (first : ℕ) (x : Step) (s : State) (w v : Engine) (result : Result Answer StepFault) (a : Answer) (o n : Outside) → result ≡ Ok a → Steps first x s w v result o n → n.faults ≡ o.faults
+steps-clean first x s w v (Ok b) a o n is t = t.ends.clean refl
+steps-clean first x s w v (Err fault) a o n is t = absurd cc
 
 module _ (number : ℕ) (line : Line) (done : List Answer) (first : ℕ) (lists : Lists) (before : Option (List ℕ)) (r : Run) (l : Read) (more : List Read) (w : Engine) (was : Sessions) (o : Outside)
     (stands : Stands first lists before r w was o) (is : IsInLine number line done r l more) (waiting : List LinkNo) (sees : Sees r line done waiting) where

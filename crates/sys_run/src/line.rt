@@ -45,6 +45,7 @@ pub fn do_line<B: Bench>(
     ensures full { (full : Full) → result ≡ Err (StepFault.Full full) → (first : ℕ) (lists : Lists) (before : Optional (Bytes ℕ)) (r : Run) (l : Read) (more : Bytes Read) → Stands first lists before r engine.old sessions.old (B.outside bench.old) → IsAtLine number line.now r l more
         → IsFullIn (journals_of engine.old.owners) lists r before full (B.outside bench.new) }
     ensures device { result ≡ Err StepFault.Device → FaultCounted (B.outside bench.old) (B.outside bench.new) }
+    ensures clean { OnOk result ((B.outside bench.new).faults ≡ (B.outside bench.old).faults) }
 {
     let counted = sessions.meet(alloc, line)?;
     let line = read_line(alloc, line)?;
@@ -72,6 +73,7 @@ fn do_read<B: Bench>(
     ensures full { (full : Full) → result ≡ Err (StepFault.Full full) → (first : ℕ) (lists : Lists) (before : Optional (Bytes ℕ)) (r : Run) (l : Read) (more : Bytes Read) → Stands first lists before (met r l.actor) engine.old sessions.old (B.outside bench.old) → IsAtRead number line.now counted r l more
         → IsFullIn (journals_of engine.old.owners) lists r before full (B.outside bench.new) }
     ensures device { result ≡ Err StepFault.Device → FaultCounted (B.outside bench.old) (B.outside bench.new) }
+    ensures clean { OnOk result ((B.outside bench.new).faults ≡ (B.outside bench.old).faults) }
 {
     if !counted {
         return refuse(
@@ -108,6 +110,7 @@ fn take_turns<B: Bench>(
     ensures full { (full : Full) → result ≡ Err (StepFault.Full full) → (first : ℕ) (lists : Lists) (before : Optional (Bytes ℕ)) (r : Run) (l : Read) (more : Bytes Read) → Stands first lists before r engine.old sessions.old (B.outside bench.old) → IsInLine number line.now [] r l more
         → IsFullIn (journals_of engine.old.owners) lists r before full (B.outside bench.new) }
     ensures device { result ≡ Err StepFault.Device → FaultCounted (B.outside bench.old) (B.outside bench.new) }
+    ensures clean { OnOk result ((B.outside bench.new).faults ≡ (B.outside bench.old).faults) }
 {
     lines_take_few_steps();
     an_archive_leaves_the_others_pending();

@@ -141,6 +141,7 @@ fn decide<B: Bench>(
     ensures steps { (first : ℕ) (s : State) → IsOf first engine.old s → AreShown s txns.old → Steps first (steps.Decide session) s engine.old engine.new result (B.outside bench.old) (B.outside bench.new) }
     ensures shown { (first : ℕ) (s : State) → IsOf first engine.old s → AreShown s txns.old → OnOk result (AreShown (machine.step s (steps.Decide session)).1 txns.new) }
     ensures spelled { (first : ℕ) (s : State) → IsOf first engine.old s → AreShown s txns.old → AreSpelled (writes s (steps.Decide session)) }
+    ensures never { result ≢ Err StepFault.Memory }
     ensures count { length txns.new ≡ length txns.old }
 {
     steps_leave_other_sessions();
@@ -162,6 +163,7 @@ fn finish<B: Bench>(
     ensures steps { (first : ℕ) (s : State) → IsOf first engine.old s → AreShown s txns.old → Steps first (steps.Finish session) s engine.old engine.new result (B.outside bench.old) (B.outside bench.new) }
     ensures shown { (first : ℕ) (s : State) → IsOf first engine.old s → AreShown s txns.old → OnOk result (AreShown (machine.step s (steps.Finish session)).1 txns.new) }
     ensures spelled { (first : ℕ) (s : State) → IsOf first engine.old s → AreShown s txns.old → AreSpelled (writes s (steps.Finish session)) }
+    ensures never { result ≢ Err StepFault.Memory }
     ensures count { length txns.new ≡ length txns.old }
 {
     steps_leave_other_sessions();
@@ -183,6 +185,7 @@ fn roll_back<B: Bench>(
     ensures steps { (first : ℕ) (s : State) → IsOf first engine.old s → AreShown s txns.old → Steps first (steps.Rollback session) s engine.old engine.new result (B.outside bench.old) (B.outside bench.new) }
     ensures shown { (first : ℕ) (s : State) → IsOf first engine.old s → AreShown s txns.old → OnOk result (AreShown (machine.step s (steps.Rollback session)).1 txns.new) }
     ensures spelled { (first : ℕ) (s : State) → IsOf first engine.old s → AreShown s txns.old → AreSpelled (writes s (steps.Rollback session)) }
+    ensures never { result ≢ Err StepFault.Memory }
     ensures count { length txns.new ≡ length txns.old }
 {
     steps_leave_other_sessions();

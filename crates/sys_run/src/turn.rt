@@ -51,6 +51,7 @@ pub(crate) fn take_turn<B: Bench>(
     ensures full { (full : Full) → result ≡ Err (StepFault.Full full) → (first : ℕ) (lists : Lists) (before : Optional (Items ℕ)) (r : Run) (l : Read) (more : Items Read) → Stands first lists before r engine.old sessions.old (B.outside bench.old) → IsInLine number line.now answers.old r l more → Sees r line.now answers.old waiting.now
         → IsFullIn (journals_of engine.old.owners) lists r before full (B.outside bench.new) }
     ensures device { result ≡ Err StepFault.Device → FaultCounted (B.outside bench.old) (B.outside bench.new) }
+    ensures clean { OnOk result ((B.outside bench.new).faults ≡ (B.outside bench.old).faults) }
 {
     what_is_written_is_read();
     stopped_steps_stand();
@@ -168,6 +169,7 @@ pub(crate) fn refuse<B: Bench>(
         → AtEveryMoment (IsBetween lists r (told_by r l more (Some (answers.Refused why))) before) (B.outside bench.old) (B.outside bench.new) }
     ensures not_full { (full : Full) → result ≢ Err (StepFault.Full full) }
     ensures device { result ≡ Err StepFault.Device → FaultCounted (B.outside bench.old) (B.outside bench.new) }
+    ensures clean { OnOk result ((B.outside bench.new).faults ≡ (B.outside bench.old).faults) }
 {
     tell_owned(alloc, sessions, bench, number, line, Answer::Refused(why))
 }
@@ -187,6 +189,7 @@ fn tell_owned<B: Bench>(
         → AtEveryMoment (IsBetween lists r (told_by r l more (Some answer)) before) (B.outside bench.old) (B.outside bench.new) }
     ensures not_full { (full : Full) → result ≢ Err (StepFault.Full full) }
     ensures device { result ≡ Err StepFault.Device → FaultCounted (B.outside bench.old) (B.outside bench.new) }
+    ensures clean { OnOk result ((B.outside bench.new).faults ≡ (B.outside bench.old).faults) }
 {
     let told = tell(alloc, sessions, bench, number, line, &answer);
     drop(answer);
@@ -208,6 +211,7 @@ pub(crate) fn tell<B: Bench>(
         → AtEveryMoment (IsBetween lists r (told_by r l more (Some answer.now)) before) (B.outside bench.old) (B.outside bench.new) }
     ensures not_full { (full : Full) → result ≢ Err (StepFault.Full full) }
     ensures device { result ≡ Err StepFault.Device → FaultCounted (B.outside bench.old) (B.outside bench.new) }
+    ensures clean { OnOk result ((B.outside bench.new).faults ≡ (B.outside bench.old).faults) }
 {
     telling_leaves_the_areas::<B>();
     what_is_written_is_read();

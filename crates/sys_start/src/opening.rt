@@ -1,9 +1,9 @@
 // A run begins.
 ghost use Rattle.std.specs.Prelude.{◌≡◌, ◌≤◌, ◌^◌, ℕ, Err, IfOk, Some};
-ghost use Rattle.dl_areas.specs.Lists.{Lists};
+ghost use Rattle.dl_areas.specs.Lists.{HasLists, Lists, puts};
 ghost use Rattle.dl_areas.specs.Opening.{AreRead, IsInBegin, IsInOpening, journals_with};
-ghost use Rattle.dl_areas.specs.Writing.{full_in};
-ghost use Rattle.dl_base.specs.Outside.{AtEveryMoment, FaultCounted};
+ghost use Rattle.dl_areas.specs.Writing.{fitting, full_in};
+ghost use Rattle.dl_base.specs.Outside.{AtEveryMoment, CrashState, FaultCounted, Now};
 ghost use Rattle.dl_base.specs.declared.area.Area.{Area as Areas_};
 ghost use Rattle.dl_base.specs.declared.fault.Full.{Full as Fulls};
 ghost use Rattle.fm_manager.specs.Managed.{as_writes};
@@ -41,6 +41,7 @@ pub fn open<B: Bench>(alloc: Global, bench: &mut B, settings: Settings) -> Resul
     ensures unwritten { (area : Areas_) (place : ℕ) → result ≡ Err (OpenFault.NotAStore area place) → AtEveryMoment (IsInOpening (B.outside bench.old)) (B.outside bench.old) (B.outside bench.new) }
     ensures unopened { (x : Areas) → AreTold x (B.outside bench.old) → ((s : Stored) → AreasStand x s → ⊥) → AtEveryMoment (IsInOpening (B.outside bench.old)) (B.outside bench.old) (B.outside bench.new) }
     ensures full { (full : Fulls) → result ≡ Err (OpenFault.Full full) → (lists : Lists) (f : Folds) → AreFound lists f (B.outside bench.old) → full_in (journals_with settings.limit lists) (as_writes (opening f)) ≡ Some full }
+    ensures there { (full : Fulls) → result ≡ Err (OpenFault.Full full) → (lists : Lists) (f : Folds) → AreFound lists f (B.outside bench.old) → (p : CrashState) → Now (B.outside bench.new) p → HasLists (puts (fitting (journals_with settings.limit lists) (as_writes (opening f))) lists) p }
     ensures stands { (full : Fulls) → result ≡ Err (OpenFault.Full full) → (lists : Lists) → AreRead lists (B.outside bench.old) → (f : Folds) × AreFound lists f (B.outside bench.old) }
     ensures found { (full : Fulls) → result ≡ Err (OpenFault.Full full) → (x : Areas) → AreTold x (B.outside bench.old) → (lists : Lists) × (f : Folds) × AreFound lists f (B.outside bench.old) }
     ensures device { result ≡ Err OpenFault.Device → FaultCounted (B.outside bench.old) (B.outside bench.new) }

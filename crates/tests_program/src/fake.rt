@@ -94,6 +94,13 @@ impl FakeHost {
         })
     }
 
+    /// Gives an area's file these bytes, before a run.
+    pub fn put(&mut self, area: Area, bytes: &[u8]) -> Result<(), Memory>
+        ensures { self.new.is_locked ≡ self.old.is_locked }
+    {
+        self.bench.put(area, bytes)
+    }
+
     /// The bytes that the area's file has.
     pub fn file(&self, area: Area) -> &[u8] {
         self.bench.area(area)

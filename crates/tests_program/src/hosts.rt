@@ -1,10 +1,10 @@
 // Whole runs over the folder's logic, on a host in memory.
-ghost use Rattle.std.specs.Prelude.{◌≡◌, false};
+ghost use Rattle.std.specs.Prelude.{◌≡◌, false, IfOk};
 
 use crate::fake::{FakeHost, FakeReader, Plan};
 use crate::runs::{first_record, openings, words_of};
 use datalinks::{Status, single};
-use dl_base::{Area, Text};
+use dl_base::{Area, Memory, Text};
 use dl_host::{FolderBench, InputSource};
 use std::alloc::Global;
 
@@ -113,6 +113,71 @@ fn short_and_interrupted_calls(rt: HostRuntime) {
     for most in 1..5 {
         assert_eq!(rt; is_whole_by(rt.alloc(), most), Some(true));
     }
+}
+
+fn put_all(host: &mut FakeHost) -> Result<(), Memory>
+    ensures { host.new.is_locked ≡ host.old.is_locked }
+{
+    let opened = openings()[0];
+    host.put(Area::Rows, opened)?;
+    host.put(Area::Links, opened)?;
+    host.put(Area::Files, first_record())?;
+    host.put(Area::Archive, b"\0")?;
+    host.put(Area::Backups, b"\0")
+}
+
+/// A folder as a run of the script leaves it.
+fn left(alloc: Global, plan: Plan) -> Result<FakeHost, Memory>
+    ensures { IfOk result (λ host. host.is_locked ≡ false) }
+{
+    let mut host = FakeHost::new(alloc, plan)?;
+    match put_all(&mut host) {
+        Ok(()) => Ok(host),
+        Err(fault) => {
+            drop(host);
+            Err(fault)
+        }
+    }
+}
+
+fn told_file() -> &'static [u8] {
+    b"1: bytes 3\n1| one\n"
+}
+
+/// The status of a run that reads the file, how many bytes are told, and whether these are the file's.
+fn read_on(alloc: Global, words: &[Text], host: FakeHost) -> (u8, usize, bool)
+    requires { host.is_locked ≡ false }
+{
+    let mut source = InputSource::new(FakeReader::new(b"@ann read /a\n", false));
+    let (status, after) = single(alloc, words, &mut source, FolderBench::new(host));
+    let told = after.host().told();
+    let end = (status.code(), told.len(), told == told_file());
+    drop(after);
+    end
+}
+
+/// The same over what the script leaves, where calls do so many bytes at most, each behind an interrupted one, and those of a letter fail.
+/// `None` is want of memory.
+fn read_again(alloc: Global, most: usize, failing: u8) -> Option<(u8, usize, bool)> {
+    let words = words_of(alloc, b"run")?;
+    let mut plan = Plan::new(alloc);
+    plan.most = most;
+    plan.interrupts = true;
+    plan.failing = failing;
+    let end = match left(alloc, plan) {
+        Ok(host) => Some(read_on(alloc, words.as_slice(), host)),
+        Err(_) => None,
+    };
+    drop(words);
+    end
+}
+
+#[test]
+fn short_interrupted_and_failing_reads(rt: HostRuntime) {
+    for most in 1..5 {
+        assert_eq!(rt; read_again(rt.alloc(), most, 0), Some((0, 18, true)));
+    }
+    assert_eq!(rt; read_again(rt.alloc(), 1_000, b'r'), Some((3, 0, false)));
 }
 
 /// The status, and how much was told, where calls of this letter fail.

@@ -42,3 +42,6 @@ pub returns-in-Err-clause-complete : goal.returns-in-Err-clause-complete
 returns-in-Err-clause-complete g c run begins short room calm =
     subst IsDone (sym c.script_end.ensures) (script-done c.in-Err.fault run.script (g.S.Source.rest c.args.source.now) (g.S.Source.rest c.read_script.new.source) (g.S.Source.faults c.args.source.now) (g.S.Source.faults c.read_script.new.source)
     begins.source_has short calm (λ is. c.in-Err.ensures.cause (ap (λ (e : ScriptFault). Err e) is)) (λ n is. c.in-Err.ensures.too_long n (ap (λ (e : ScriptFault). Err e) is)))
+
+pub returns-in-Ok-clause-clean : goal.returns-in-Ok-clause-clean
+returns-in-Ok-clause-clean g c is = (c.run.ensures.clean is, c.in-Ok.ensures.clean)

@@ -1,8 +1,8 @@
-use Rattle.std.proofs.Common.{◌≡◌, inl, Some, Err, ap, sym, subst, ◌∙◌}
+use Rattle.std.proofs.Common.{◌≡◌, inl, Some, Err, ap, sym, subst, ◌∙◌, arith}
 use Rattle.std.specs.Str.Lines.{lines}
-use Rattle.dl_areas.specs.Lists.{puts}
+use Rattle.dl_areas.specs.Lists.{HasLists, puts}
 use Rattle.dl_areas.specs.Opening.{journals_with}
-use Rattle.dl_areas.specs.Writing.{full_in}
+use Rattle.dl_areas.specs.Writing.{fitting, full_in}
 use Rattle.dl_base.specs.declared.fault.StepFault.{StepFault}
 use Rattle.dl_base.specs.declared.step.Settings.{Settings}
 use Rattle.fm_manager.specs.Managed.{as_writes}
@@ -120,7 +120,7 @@ returns-in-Err-run_lines-clause-not_a_store g c area place is = absurd (step-no-
 pub returns-in-Err-run_lines-clause-device : goal.returns-in-Err-run_lines-clause-device
 returns-in-Err-run_lines-clause-device g c is =
     let O = g.B.Bench.outside in
-    rose-later (O c.args.bench) (O c.open.new.bench) (O c.run_lines.new.bench) c.in-Ok.ensures.begun.2.faults
+    rose-later (O c.args.bench) (O c.open.new.bench) (O c.run_lines.new.bench) (omega (arith, c.in-Ok.ensures.begun.2.begun.clean))
     (c.in-Err-run_lines.ensures.device (ap (λ (e : StepFault). Err e) (step-device c.in-Err-run_lines.fault (sym c.step_end.ensures ∙ is))))
 
 pub returns-in-Err-run_lines-clause-stood : goal.returns-in-Err-run_lines-clause-stood
@@ -161,6 +161,8 @@ returns-in-Err-clause-full g c full is run begins =
     inl (record {
       full_is = subst (λ (s : Settings). full_in (journals_with s.limit run.lists) (as_writes (opening run.folds)) ≡ Some full) (sym begins.given_is) (c.in-Err.ensures.full full which run.lists run.folds begins.areas_have);
       told = c.open.ensures.told;
+      has = λ p now. subst (λ (s : Settings). HasLists (puts (fitting (journals_with s.limit run.lists) (as_writes (opening run.folds))) run.lists) p) (sym begins.given_is)
+          (c.in-Err.ensures.there full which run.lists run.folds begins.areas_have p now);
     })
 
 pub returns-in-Err-clause-stood : goal.returns-in-Err-clause-stood
@@ -168,3 +170,9 @@ returns-in-Err-clause-stood g c was x told =
     let full = opening-opened c.in-Err.fault (subst WasOpened c.opening_end.ensures was) in
     let found = c.in-Err.ensures.found full.0 (ap (λ (e : OpenFault). Err e) full.1) x told in
     found-stands found.0 found.1 (g.B.Bench.outside c.args.bench) found.2 x told
+
+pub returns-in-Ok-run_lines-clause-clean : goal.returns-in-Ok-run_lines-clause-clean
+returns-in-Ok-run_lines-clause-clean g c is = c.in-Ok-run_lines.ensures.clean ∙ c.in-Ok.ensures.begun.2.begun.clean
+
+pub returns-in-Err-run_lines-clause-clean : goal.returns-in-Err-run_lines-clause-clean
+returns-in-Err-run_lines-clause-clean g c is = absurd (step-never-done c.in-Err-run_lines.fault (sym c.step_end.ensures ∙ is))

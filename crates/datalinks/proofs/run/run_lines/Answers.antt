@@ -10,6 +10,7 @@ pub loop-rest-init : goal.loop-rest-init
 loop-rest-init g c = record {
   numbered = omega arith;
   passed = λ first lists before r stands at. passed-first c.args.script.now first lists before r c.args.engine.now c.args.sessions.now (g.B.Bench.outside c.args.bench.now) stands at;
+  clean = refl;
 }
 
 pub do_line-requires : goal.do_line-requires
@@ -55,6 +56,7 @@ loop-rest-preserved g c =
           on.passed c.first_line.result.1.now c.do_line.new.engine c.do_line.new.sessions (O c.do_line.new.bench) refl
           (c.in-Ok.ensures.done first on.lists_there before on.run on.l on.more on.stands on.at)
           (c.do_line.ensures.history first on.lists_there before on.run on.l on.more on.stands on.at);
+      clean = c.in-Ok.ensures.clean ∙ c.loop-rest.invariant.clean;
     }
 
 pub returns-clause-done : goal.returns-clause-done

@@ -16,4 +16,4 @@ returns g c =
     let e = c.append.ensures in
     alone-as j c.append.new.self (write_of j.area body None ∷ []) (write_of j.area body c.args.exhausted ∷ []) (result_err c.append.result) (result_err c.append.result) (O c.args.bench.now) (O c.append.new.bench)
     (ap (λ (x : Option Full). write_of j.area body x ∷ []) (sym c.in_default.is)) refl
-    (c.an_append_writes_one_record.ensures.one j c.append.new.self body c.append.result c.args.bench.now c.append.new.bench e.acknowledged e.images e.open e.length e.err e.full e.room e.unwritten e.device)
+    (c.an_append_writes_one_record.ensures.one j c.append.new.self body c.append.result c.args.bench.now c.append.new.bench e.acknowledged e.images e.open e.length e.err e.full e.room e.unwritten e.device e.clean)

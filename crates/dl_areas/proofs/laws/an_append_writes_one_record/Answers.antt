@@ -3,9 +3,9 @@ use Rattle.dl_areas.proofs.Appending.{alone-one, alone-exhausted, alone-none, al
 use Rattle.dl_areas.proofs.laws.an_append_writes_one_record.Goals as goal
 
 pub returns-clause-one : goal.returns-clause-one
-returns-clause-one g c j k body result o n more adds gate grew kept full room unwritten device =
+returns-clause-one g c j k body result o n more adds gate grew kept full room unwritten device clean =
     let O = g.B.Bench.outside in
-    alone-one j k body result (O o) (O n) more adds gate grew kept full room (λ lt. ap O (unwritten lt)) device
+    alone-one j k body result (O o) (O n) more adds gate grew kept full room (λ lt. ap O (unwritten lt)) device clean
 
 pub returns-clause-exhausted : goal.returns-clause-exhausted
 returns-clause-exhausted g c j w f o = alone-exhausted j w f (g.B.Bench.outside o)

@@ -13,7 +13,7 @@ use Rattle.meaning_areas.specs.Stands.{stored_of}
 use Rattle.meaning_system.specs.Writes.{opening}
 use Rattle.sys_opening.proofs.Records.{opening-sound, same-folds}
 use Rattle.sys_opening.proofs.Halts.{halts-images, halts-told, risen}
-use Rattle.sys_opening.proofs.Reading.{found-told, stand-told, unlike-told}
+use Rattle.sys_opening.proofs.Reading.{found-told, full-there, stand-told, unlike-told}
 use Rattle.sys_opening.proofs.Spelling.{all-spelled}
 use Rattle.sys_opening.proofs.Trying.{tries-fronts, tries-whole}
 use Rattle.sys_opening.specs.Begun.{IsOfOpening}
@@ -42,6 +42,11 @@ returns-in_err-owners-clause-no_store g c area place is x told =
 
 pub returns-in_err-owners-clause-full : goal.returns-in_err-owners-clause-full
 returns-in_err-owners-clause-full g c full is lists f found =
+    let same : c.from_residual.result ≡ Err c.in_err-owners.field-0.0 = search rules in
+    absurd (c.in_err-owners.ensures.no_full full (sym same ∙ is))
+
+pub returns-in_err-owners-clause-there : goal.returns-in_err-owners-clause-there
+returns-in_err-owners-clause-there g c full is lists f found p now =
     let same : c.from_residual.result ≡ Err c.in_err-owners.field-0.0 = search rules in
     absurd (c.in_err-owners.ensures.no_full full (sym same ∙ is))
 
@@ -138,7 +143,6 @@ returns-in-Ok-clause-begun g c =
       record {
         read = λ told are. c.open_areas_have_their_lists.ensures.lists c.args.limit js opened.0 told o m opened.1 are;
         found = λ x told. found-told c.args.limit js opened.0 (O o) (O m) opened.1 x told f opened.2 stand;
-        faults = omega (arith, opened.1.opens.moments.faults, does.faults);
         folded = opened.2;
         stand = stand;
         begun = c.an_opening_writes_its_records.ensures.begun c.args.limit js ks opened.0 (as_writes (opening f)) o m n opened.1 does;
@@ -268,6 +272,22 @@ returns-in-Err-write_all-clause-full g c full is lists f found =
     subst (λ (h : Folds). full_in (journals_with c.args.limit lists) (as_writes (opening h)) ≡ Some full) same
     (c.an_opening_writes_its_records.ensures.full c.args.limit js ks opened.0 lists ws full o m n opened.1
     (subst (λ (e : OpenFault). Halts js ks ws (Some e) (O m) (O n)) at c.in-Err-write_all.ensures.halts) found.read)
+
+pub returns-in-Err-write_all-clause-there : goal.returns-in-Err-write_all-clause-there
+returns-in-Err-write_all-clause-there g c full is lists f found p now =
+    let O = g.B.Bench.outside in
+    let w = c.in_ok-owners.owners in
+    let opened = c.in_ok-owners.ensures.opened in
+    let js = journals_of w in
+    let ks = journals_of c.write_all.new.owners in
+    let o = c.args.bench.now in
+    let m = c.open_all.new.bench in
+    let n = c.write_all.new.bench in
+    let at : c.in-Err-write_all.fault ≡ faults.Full full = cc in
+    let read = c.open_areas_have_their_lists.ensures.lists c.args.limit js opened.0 lists o m opened.1 found.read in
+    full-there c.args.limit js c.write_all.new.owners opened.0 lists (folds_in w) f (O m) (O n) full (c.open_areas_have_their_lists.ensures.journals c.args.limit js opened.0 o m opened.1) read
+    (same-folds opened.0 lists (folds_in w) f read opened.2 found.folded) (c.open_areas_have_their_lists.ensures.kept c.args.limit js opened.0 o m opened.1)
+    (subst (λ (e : OpenFault). Halts js ks (as_writes (opening (folds_in w))) (Some e) (O m) (O n)) at c.in-Err-write_all.ensures.halts) p now
 
 pub returns-in-Err-write_all-clause-found : goal.returns-in-Err-write_all-clause-found
 returns-in-Err-write_all-clause-found g c full is x told =

@@ -1,5 +1,6 @@
 use Rattle.std.proofs.Common.{◌+◌, ap}
-use Rattle.db_store.specs.Store.{Database, draw_full}
+use Rattle.db_store.specs.Store.{Database}
+use Rattle.meaning_areas.specs.Full.{draw_full}
 use Rattle.sys_owners.proofs.Placing.{with_store}
 use Rattle.sys_records.proofs.PuttingBack.{on-drawn}
 use Rattle.sys_records.proofs.restoring.count_drawn.Goals as goal

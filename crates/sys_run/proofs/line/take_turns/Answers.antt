@@ -99,7 +99,7 @@ loop-answers-preserved g c =
           let sees = reached-sees reached follow c.behind.result.now c.len.result c.behind.ensures c.len.ensures in
           let (s, grown, went) = c.in-Ok-false.ensures.turned first there before at l more reached.stands reached.is sees in
           let goes = subst (λ (b : Bool). Goes b c.args.number c.args.line.now c.take_turn.new.answers at l more) c.in-Ok-false.field-0-test went in
-          reached-next reached follow each c.lines_take_few_steps.ensures is.answers c.take_turn.new.engine c.take_turn.new.sessions (O c.take_turn.new.bench) c.take_turn.new.answers s grown goes (c.take_turn.ensures.history first there before at l more reached.stands reached.is sees);
+          reached-next reached follow each c.lines_take_few_steps.ensures is.answers c.take_turn.new.engine c.take_turn.new.sessions (O c.take_turn.new.bench) c.take_turn.new.answers s grown goes (c.take_turn.ensures.history first there before at l more reached.stands reached.is sees) c.in-Ok-false.ensures.clean;
     }
 
 pub returns-in-Err-clause-history : goal.returns-in-Err-clause-history
@@ -138,3 +138,8 @@ returns-in-Ok-true-clause-device g c = grind (arith, common_steps)
 
 pub returns-in-Ok-true-clause-full : goal.returns-in-Ok-true-clause-full
 returns-in-Ok-true-clause-full g c = grind (arith, common_steps)
+
+pub returns-in-Ok-true-clause-clean : goal.returns-in-Ok-true-clause-clean
+returns-in-Ok-true-clause-clean g c =
+    let (first, lists, before, r, l, more, stands, is) = c.requires.stands in
+    c.in-Ok-true.ensures.clean ∙ (c.loop-answers.invariant.reached first lists before r l more stands is).clean

@@ -4,7 +4,7 @@ use Rattle.dl_base.specs.declared.step.Step.TheVariants as steps
 use Rattle.meaning_script.specs.Expansion.{answered, given, meant, silent}
 use Rattle.sys_run.proofs.Images.{Laws}
 use Rattle.sys_run.proofs.Lines.{silent-stands}
-use Rattle.sys_run.proofs.Taking.{given-tells, its-step, same-fault, step-filled, step-history, step-turned, tell-history, tell-turned}
+use Rattle.sys_run.proofs.Taking.{given-tells, its-step, same-fault, step-filled, step-history, step-turned, steps-clean, tell-history, tell-turned}
 use Rattle.std.proofs.lemmas.Grind.{common_steps}
 use Rattle.sys_run.proofs.turn.take_turn.Goals as goal
 
@@ -244,3 +244,17 @@ returns-in_ok-put-in-Statement-clause-device g c = grind (arith, common_steps)
 
 pub returns-in_ok-put-in-Do-clause-full : goal.returns-in_ok-put-in-Do-clause-full
 returns-in_ok-put-in-Do-clause-full g c = grind (arith, common_steps)
+
+pub returns-in_ok-put-in-Do-clause-clean : goal.returns-in_ok-put-in-Do-clause-clean
+returns-in_ok-put-in-Do-clause-clean g c =
+    let O = g.B.Bench.outside in
+    let (first, lists, before, r, l, more, stands, is, sees) = c.requires.stands in
+    steps-clean first c.in-Do.step r.state c.args.engine.now c.do_step.new.engine c.do_step.result c.in_ok-answer-in-Do.answer (O c.args.bench.now) (O c.do_step.new.bench) c.in_ok-answer-in-Do.was
+    (c.do_step.ensures.steps first r.state stands.is stands.sessions.shown)
+
+pub returns-in_ok-put-in-Statement-clause-clean : goal.returns-in_ok-put-in-Statement-clause-clean
+returns-in_ok-put-in-Statement-clause-clean g c =
+    let O = g.B.Bench.outside in
+    let (first, lists, before, r, l, more, stands, is, sees) = c.requires.stands in
+    steps-clean first (steps.Statement c.in-Statement.session c.in-Statement.stmt.now) r.state c.args.engine.now c.do_statement.new.engine c.do_statement.result c.in_ok-answer-in-Statement.answer (O c.args.bench.now) (O c.do_statement.new.bench)
+    c.in_ok-answer-in-Statement.was (c.do_statement.ensures.steps first r.state stands.is stands.sessions.shown)

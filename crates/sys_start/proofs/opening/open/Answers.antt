@@ -25,3 +25,6 @@ returns-in-Err-clause-found g c full is = c.in-Err.ensures.found full (err-as c.
 
 pub returns-in-Err-clause-stands : goal.returns-in-Err-clause-stands
 returns-in-Err-clause-stands g c full is = c.in-Err.ensures.stands full (err-as c.in-Err.fault (faults.Full full) is)
+
+pub returns-in-Err-clause-there : goal.returns-in-Err-clause-there
+returns-in-Err-clause-there g c full is = c.in-Err.ensures.there full (err-as c.in-Err.fault (faults.Full full) is)

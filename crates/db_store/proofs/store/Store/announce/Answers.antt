@@ -1,7 +1,8 @@
 use Rattle.std.proofs.Common.{◌+◌, sym, ap, ◌∙◌, arith}
 use Rattle.dl_base.specs.declared.fault.Full.TheVariants as fulls
 use Rattle.db_store.proofs.Numbers.{opening_ends}
-use Rattle.db_store.specs.Store.{Database, extent, opening_full, opening_write}
+use Rattle.db_store.specs.Store.{Database, extent, opening_write}
+use Rattle.meaning_areas.specs.Full.{opening_full}
 use Rattle.std.proofs.lemmas.Grind.{common_steps}
 use Rattle.db_store.proofs.store.Store.announce.Goals as goal
 

@@ -43,3 +43,6 @@ returns-then-len-lt2-clause-same_list g c = λ told d was is.
     let law = g.met.B.Bench.lawful c.write_first_gate.new.bench in
     let short : length told < 2 = omega (arith, ap length (c.in_ok-bytes.ensures.value told was), c.len.ensures) in
     records-short d (c.write_first_gate.ensures.images.here d (law.as_it_reads c.args.area d is)).2 ∙ sym (records-short told short)
+
+pub returns-clause-first_gate : goal.returns-clause-first_gate
+returns-clause-first_gate g c = λ told is short d left. absurd (omega (arith, short, ap length (c.in_ok-bytes.ensures.value told is), c.len.ensures))

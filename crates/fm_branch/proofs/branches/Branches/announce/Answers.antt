@@ -1,7 +1,8 @@
 use Rattle.std.proofs.Common.{◌≡◌, ℕ, ◌+◌, sym, ap, ◌∙◌, arith}
 use Rattle.dl_base.specs.declared.fault.Full.TheVariants as fulls
 use Rattle.fm_branch.proofs.Numbers.{opening_ends}
-use Rattle.fm_branch.specs.Linked.{Linked, extent, opening_full, opening_write}
+use Rattle.fm_branch.specs.Linked.{Linked, extent, opening_write}
+use Rattle.meaning_areas.specs.Full.{opening_full}
 use Rattle.fm_branch.proofs.branches.Branches.announce.Goals as goal
 
 pub returns-then-last-ge-MOST_NUMBERS-clause-does : goal.returns-then-last-ge-MOST_NUMBERS-clause-does

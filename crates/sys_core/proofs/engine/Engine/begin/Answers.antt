@@ -69,3 +69,6 @@ returns-in-Err-sit_down-clause-steps c first s is has =
 
 pub returns-in-Err-sit_down-clause-shows : goal.returns-in-Err-sit_down-clause-shows
 returns-in-Err-sit_down-clause-shows c first s is has = record { shown = tt; memory = λ e. c.in-Err-sit_down.ensures.vacant }
+
+pub returns-in-Err-sit_down-clause-memory : goal.returns-in-Err-sit_down-clause-memory
+returns-in-Err-sit_down-clause-memory c e = (sym c.tx.ensures ∙ c.in_default.is, left-is (draw_full (c.args.self.now.owners.store.drawn + 1)) c.in-Ok.ensures.full)

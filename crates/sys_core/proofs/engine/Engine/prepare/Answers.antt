@@ -43,6 +43,7 @@ returns-in_default-phase g c =
       shows = λ first s is has. leaves-shown first s (steps.Prepare v.session) (answers.Refused (reasons.WrongPhase p))
           (wrong-phase first w s v c.in-Some.tx is has c.in-Some.ensures p c.phase.ensures c.in_default-phase.not-Active) v has;
       spelled = λ kept first s is has. nothing-spelled (writes s (steps.Prepare v.session)) (wrong-phase first w s v c.in-Some.tx is has c.in-Some.ensures p c.phase.ensures c.in_default-phase.not-Active).records;
+      memory = λ e. absurd cc;
     }
 
 -- the vote is refused
@@ -127,3 +128,8 @@ returns-in-Err-clause-spelled g c kept first s is has =
     let m = may-vote first w s v tx is has c.in-Some.ensures c.phase.result c.phase.ensures c.in-Active.is c.in_ok-refusal.field-0 (λ t at. c.in_ok-refusal.ensures first s t is at) c.in_default-2.is in
     as-spelled (writes s (steps.Prepare v.session)) (prepared tx (moved_of m.0)) (voted-writes s v.session tx m.0 m.2.txn m.2.active m.2.passes)
     (c.in-Err.ensures.spelled (λ e. kept (err-as c.in-Err.fault faults.Memory e)) first s v.session m.0 m.2)
+
+-- want of memory comes of an active transaction
+
+pub returns-in-Err-clause-memory : goal.returns-in-Err-clause-memory
+returns-in-Err-clause-memory g c e = (c.in-Some.tx, sym c.in-Some.ensures, sym c.phase.ensures ∙ c.in-Active.is)

@@ -1,6 +1,7 @@
-use Rattle.std.proofs.Common.{Err, sym, subst}
+use Rattle.std.proofs.Common.{Err, sym, ap, ◌∙◌, subst}
 use Rattle.dl_base.specs.declared.fault.StepFault.{StepFault}
 use Rattle.dl_base.specs.declared.step.Step.TheVariants as steps
+use Rattle.sys_core.proofs.Stepped.{not-memory}
 use Rattle.sys_core.proofs.Stored.{Laws, copy-room, copy-spelled, copy-taken, later, not-stored, stored}
 use Rattle.sys_core.specs.Steps.{Steps}
 use Rattle.sys_owners.proofs.Placing.{manager-open}
@@ -30,6 +31,7 @@ returns-in-Ok g c =
     record {
       steps = λ first s n can. stored laws first w s n c.args.copy can c.store.new.self (O c.args.bench.now) (O c.store.new.bench) c.requires.ready e.folds e.spare e.does;
       spelled = λ first s n can. copy-spelled laws first w s n c.args.copy can c.is_spelled.ensures;
+      never = λ e. cc;
     }
 
 pub returns-in-Err : goal.returns-in-Err
@@ -42,4 +44,5 @@ returns-in-Err g c =
           subst (λ (q : StepFault). Steps first (steps.Archive n) s w (later laws first w s n c.args.copy can c.store.new.self (O c.args.bench.now) (O c.store.new.bench) c.requires.ready) (Err q) (O c.args.bench.now) (O c.store.new.bench)) (sym c.from.ensures)
           (not-stored laws first w s n c.args.copy can c.store.new.self (O c.args.bench.now) (O c.store.new.bench) c.requires.ready c.in-Err.fault c.in-Err.ensures.does);
       spelled = λ first s n can. copy-spelled laws first w s n c.args.copy can c.is_spelled.ensures;
+      never = λ e. not-memory c.in-Err.fault (ap (λ (q : StepFault). Err q) (sym c.from.ensures) ∙ e);
     }

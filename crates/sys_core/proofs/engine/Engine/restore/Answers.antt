@@ -19,6 +19,7 @@ returns-in-Some g c = record {
       leaves-steps first s (steps.Restore c.args.target) (answers.Refused (reasons.SessionBusy c.in-Some.session)) (busy-refused s c.args.target c.in-Some.session (busy ∙ c.in-Some.is)) w (g.B.Bench.outside c.args.bench.now) is
       (c.calls_follow_one_another.ensures.none (journals_of w.owners) c.args.bench.now);
   spelled = λ kept first s is busy left. refused-spelled s c.args.target (reasons.SessionBusy c.in-Some.session) (busy-refused s c.args.target c.in-Some.session (busy ∙ c.in-Some.is));
+  memory = λ e. absurd cc;
 }
 
 -- there is no memory for a plan
@@ -31,6 +32,7 @@ returns-in_err-refusal g c = record {
   spelled = λ kept first s is busy left.
       let e : c.from_residual.result ≡ Err faults.Memory = search rules in
       absurd (kept e);
+  memory = λ e. c.in_default.is;
 }
 
 -- it is refused
@@ -62,3 +64,6 @@ pub returns-in-Ready-clause-spelled : goal.returns-in-Ready-clause-spelled
 returns-in-Ready-clause-spelled g c kept first s is busy left =
     let plan = subst (λ (x : Planned). IsPlanned s c.args.target x) c.in-Ready.is (c.in_ok-refusal.ensures first s is) in
     c.restore_by.ensures.spelled kept first s c.args.target (record { state = is; idle = busy ∙ c.in_default.is; plan = plan }) left
+
+pub returns-in-Ready-clause-memory : goal.returns-in-Ready-clause-memory
+returns-in-Ready-clause-memory g c e = c.in_default.is

@@ -205,3 +205,14 @@ returns-clause-shows c first s is has =
     let know = some-of s v tx has (sym c.in-Some.ensures) in
     let active : know.0.phase ≡ phases.Active = sym (seat-phase s w.seats tx know.0 is.seats know.1.there) ∙ sym c.in-Active.ensures in
     memory-shows first s w is v c.args.stmt.now c.undo.new.self faults.Memory (undone first s w is v c.args.stmt.now laws tx know.0 know.1 active c.requires.plain c.in_ok-context.context c.in_ok-context.ensures c.evaluate.new.self c.in_ok-evaluate.ensures.ok c.undo.new.self c.undo.ensures)
+
+-- want of memory comes of an active transaction
+
+pub returns-in_err-context-clause-memory : goal.returns-in_err-context-clause-memory
+returns-in_err-context-clause-memory c e = (c.in-Some.tx, sym c.in-Some.ensures, sym c.in-Active.ensures)
+
+pub returns-in_err-evaluate-clause-memory : goal.returns-in_err-evaluate-clause-memory
+returns-in_err-evaluate-clause-memory c e = (c.in-Some.tx, sym c.in-Some.ensures, sym c.in-Active.ensures)
+
+pub returns-clause-memory : goal.returns-clause-memory
+returns-clause-memory c e = (c.in-Some.tx, sym c.in-Some.ensures, sym c.in-Active.ensures)
