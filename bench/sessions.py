@@ -118,7 +118,8 @@ def processor_of(pid):
 
 class Run:
     """A run of the program in a folder: what it told, how long the opening took and how many bytes were in memory then; how long the
-    lines took behind the mark, both in seconds and in seconds of the processor; and how many lines had been told by which look, with the moment of the look before, from the mark on."""
+    lines took behind the mark, both in seconds and in seconds of the processor; and how many lines had been told by which look,
+    with the moment of the look before, from the mark on."""
 
     def __init__(self, program, folder, lines, before=()):
         given = "".join(text + "\n" for text, _ in [(MARK, MARK_TOLD)] + lines).encode()

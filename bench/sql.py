@@ -139,11 +139,11 @@ def peak_of(pid):
     return 0
 
 
-def watched(run, source):
+def watched(run, source, begun):
     """How many bytes of its source a run has done with, at least, each time that it was seen to have read on, with the moment of the look
     before and that of this one, between which it did; and its peak of memory, in bytes. When it reads on it has done with all that it had
-    read before."""
-    seen, last, peak, looks, former = [], 0, 0, 0, time.perf_counter()
+    read before. It is looked at without a pause, some 500,000 times a second: with one, looks are as far apart as 20 statements take."""
+    seen, last, peak, looks, former = [], 0, 0, 0, begun
     while run.poll() is None:
         before = time.perf_counter()
         place = os.lseek(source, 0, os.SEEK_CUR)
@@ -151,10 +151,9 @@ def watched(run, source):
             seen.append((last, former, time.perf_counter()))
             last = place
         former = before
-        if looks % 50 == 0:
+        if looks % 5_000 == 0:
             peak = max(peak, peak_of(run.pid))
         looks += 1
-        time.sleep(0.00002)
     return seen, peak
 
 
@@ -167,8 +166,9 @@ def ran(before, statements):
     with tempfile.TemporaryFile() as source, tempfile.TemporaryFile() as told:
         source.write(text)
         source.seek(0)
+        begun = time.perf_counter()
         run = subprocess.Popen([str(PROGRAM)], stdin=source, stdout=told, env=surroundings())
-        seen, peak = watched(run, source.fileno())
+        seen, peak = watched(run, source.fileno(), begun)
         status = run.wait()
         told.seek(0)
         lines = told.read().decode().splitlines()
