@@ -1,5 +1,5 @@
 -- THE COMPARISONS AT FILES AND ARCHIVE, from what is held in memory to any five lists that have it.
-use Rattle.std.proofs.Common.{◌≡◌, Bool, ◌&&◌, ◌||◌, not, List, [], map, is_some, sym, ◌∙◌, ap, subst}
+use Rattle.std.proofs.Common.{◌≡◌, ℕ, Bool, ◌&&◌, ◌||◌, not, List, [], map, is_some, sym, ◌∙◌, ap, subst}
 use Rattle.std.proofs.lemmas.List.Folds.{list_all-map}
 use Rattle.std.specs.Bool.{Decides}
 use Rattle.std.specs.FinMap as maps
@@ -8,7 +8,6 @@ use Rattle.dl_base.specs.declared.area.Area.TheVariants as areas
 use Rattle.dl_base.specs.declared.value.LinkNo.{LinkNo}
 use Rattle.dl_base.specs.declared.value.LinkRow.{LinkRow}
 use Rattle.compare_files.specs.Copies.{all_stand, archived_by, has_bytes, is_archived, is_recovered, stands_at}
-use Rattle.compare_files.specs.Effects.{Entries}
 use Rattle.compare_every.specs.Every.{IsEvery}
 use Rattle.compare_files.specs.Numbers.{IsNumbersOf}
 use Rattle.compare_files.specs.Overlay.{IsOverlayOf, Overlay, copy_at, file_at}
@@ -77,7 +76,7 @@ module _ (rows : Commits) (ls : Branches) (fs : Files) (cs : Copies) (o : Overla
       )
 
 -- a test by the numbers of links is one by these
-pub archived-by : (o : Overlay) (fs : Files) (cs : Copies) (linked : List LinkRow) (numbers : Entries (Unit {0})) → IsNumbersOf linked numbers → (xs : List LinkRow)
+pub archived-by : (o : Overlay) (fs : Files) (cs : Copies) (linked : List LinkRow) (numbers : List (List ℕ)) → IsNumbersOf linked numbers → (xs : List LinkRow)
     → list_all (archived_by o fs cs numbers) xs ≡ list_all (is_archived o fs cs linked) xs
 archived-by o fs cs linked numbers is xs = all-same (archived_by o fs cs numbers) (is_archived o fs cs linked)
     (λ x. ap (λ b. not x.options.recovery || b || is_some (copy_at o fs cs (link_key x.link))) (is (link_key x.link))) xs

@@ -3,6 +3,7 @@ pub mod Committed
 pub mod HaveFiles
 pub mod Archived
 pub mod Putting
+pub mod Numbered
 pub mod Turns
 pub mod OfPast
 pub mod Values

@@ -14,7 +14,7 @@ pub or-or : {A : Type 0} (a b d : Option A) → option_or (option_or a b) d ≡ 
 or-or None b d = refl
 or-or (Some x) b d = refl
 
-turned : (k q : List ℕ) → pointwise nat_eq k q ≡ is_at q k
+pub turned : (k q : List ℕ) → pointwise nat_eq k q ≡ is_at q k
 turned k q = nat_list_eq_equiv.symm k q ∙ texts_ties q k
 
 module _ {X : Type 0} (k : List ℕ) (x : X) where

@@ -3,7 +3,8 @@ use Rattle.std.specs.Prelude.{ℕ, Bool, true, false, ◌&&◌, ◌||◌, not, b
 use Rattle.std.specs.FinMap as maps
 use Rattle.std.specs.List.{list_all}
 use Rattle.dl_base.specs.declared.value.LinkRow.{LinkRow}
-use Rattle.compare_files.specs.Effects.{Bytes, Entries, entry}
+use Rattle.compare_files.specs.Effects.{Bytes, entry}
+use Rattle.compare_files.specs.Numbers.{is_numbered}
 use Rattle.compare_files.specs.Overlay.{Overlay, copy_at, file_at}
 use Rattle.meaning_files.specs.Files.{Files}
 use Rattle.meaning_settling.specs.Keyed.{Keyed}
@@ -46,8 +47,8 @@ abbrev pub is_archived : Overlay → Files → Copies → List LinkRow → LinkR
 is_archived o files copies linked l = not l.options.recovery || is_some (numbered linked (link_key l.link)) || is_some (copy_at o files copies (link_key l.link))
 
 -- the same, by the numbers of the links that are committed
-abbrev pub archived_by : Overlay → Files → Copies → Entries (Unit {0}) → LinkRow → Bool
-archived_by o files copies numbers l = not l.options.recovery || is_some (entry numbers (link_key l.link)) || is_some (copy_at o files copies (link_key l.link))
+abbrev pub archived_by : Overlay → Files → Copies → List (List ℕ) → LinkRow → Bool
+archived_by o files copies numbers l = not l.options.recovery || is_numbered numbers (link_key l.link) || is_some (copy_at o files copies (link_key l.link))
 
 -- where there are both, a copy has the bytes of the file
 abbrev pub same_bytes : Option Bytes → Option Bytes → Bool

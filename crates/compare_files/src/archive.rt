@@ -81,7 +81,7 @@ struct Compared {
 fn gathered(alloc: Global, store: &Store, archive: &Archive) -> Result<Compared, Memory>
     ensures stored { IfOk result (λ c. map link_key c.stored ≡ maps.keys archive.now.copies) }
     ensures linked { IfOk result (λ c. c.linked ≡ links (tables_after [] store.now.rows.commits)) }
-    ensures numbers { IfOk result (λ c. IsNumbersOf c.linked c.numbers.entries) }
+    ensures numbers { IfOk result (λ c. IsNumbersOf c.linked c.numbers.keys) }
 {
     let stored = archive.stored()?;
     match numbered(alloc, store) {
@@ -99,7 +99,7 @@ fn gathered(alloc: Global, store: &Store, archive: &Archive) -> Result<Compared,
 
 fn numbered(alloc: Global, store: &Store) -> Result<(List<LinkRow>, Numbers), Memory>
     ensures linked { IfOk result (λ both. both.0 ≡ links (tables_after [] store.now.rows.commits)) }
-    ensures numbers { IfOk result (λ both. IsNumbersOf both.0 both.1.entries) }
+    ensures numbers { IfOk result (λ both. IsNumbersOf both.0 both.1.keys) }
 {
     let linked = committed_links(alloc, store)?;
     match numbers(alloc, &linked) {
@@ -129,7 +129,7 @@ fn all_fit(
     numbers: &Numbers,
     linked: &List<LinkRow>,
 ) -> bool
-    requires { IsNumbersOf linked.now numbers.now.entries }
+    requires { IsNumbersOf linked.now numbers.now.keys }
     ensures { result ≡ (all_stand (stands_at sight.entry.settled.now sight.entry.files.now.files sight.entry.archive.now.copies sight.entry.every.now) (open_in branches.now.links) (txs_of store.now.rows.commits) && list_all (λ l. is_recovered (maps.get sight.entry.every.now (link_key l))) stored.now && list_all (is_archived sight.entry.settled.now sight.entry.files.now.files sight.entry.archive.now.copies linked.now) (maps.values sight.entry.every.now) && list_all (has_bytes sight.entry.settled.now sight.entry.files.now.files sight.entry.archive.now.copies) linked.now) }
 {
     all_stand(store, branches, sight)
@@ -186,10 +186,10 @@ impl Sight<'_> {
 
     // Whether a link has a copy, if it is committed no more and has RECOVERY YES.
     fn is_archived(self, numbers: &Numbers, row: &LinkRow) -> bool
-        ensures { result ≡ archived_by self.entry.settled.now self.entry.files.now.files self.entry.archive.now.copies numbers.now.entries row.now }
+        ensures { result ≡ archived_by self.entry.settled.now self.entry.files.now.files self.entry.archive.now.copies numbers.now.keys row.now }
     {
         !row.options.recovery
-            || numbers.contains_key(&key_of(row.link))
+            || numbers.contains(&key_of(row.link))
             || self
                 .settled
                 .copy(self.files, self.archive, row.link)
@@ -232,7 +232,7 @@ fn are_recovered(every: &EveryLink, stored: &List<LinkNo>) -> bool
 }
 
 fn are_archived(sight: Sight<'_>, numbers: &Numbers) -> bool
-    ensures { (linked : List LinkRow) → IsNumbersOf linked numbers.now.entries → result ≡ list_all (is_archived sight.entry.settled.now sight.entry.files.now.files sight.entry.archive.now.copies linked) (maps.values sight.entry.every.now) }
+    ensures { (linked : List LinkRow) → IsNumbersOf linked numbers.now.keys → result ≡ list_all (is_archived sight.entry.settled.now sight.entry.files.now.files sight.entry.archive.now.copies linked) (maps.values sight.entry.every.now) }
 {
     for i in 0..sight.every.len() {
         let Some(row) = sight.every.at(i) else {

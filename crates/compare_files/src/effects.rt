@@ -6,7 +6,7 @@ ghost use Rattle.meaning_settling.specs.Keyed.{is_at};
 ghost use Rattle.meaning_settling.specs.Settling.{link_key, numbered, on};
 
 use dl_base::{LinkNo, LinkRow, List, Memory, OnUnlink, Path};
-use indexmap::IndexMap;
+use std::collections::HashMap;
 
 /// What becomes of the bytes of the file on a path when the transaction that gives or takes a link there is settled.
 #[derive(Clone, Copy)]
@@ -20,10 +20,10 @@ pub enum Effect {
 }
 
 /// The effect on each path that a link is given or taken on.
-pub type Effects = IndexMap<Path, Effect>;
+pub type Effects = HashMap<Path, Effect>;
 
 /// Of which path's file a copy is made, by the number of the link that is given; None where the link asks for no copy.
-pub type Sources = IndexMap<[u64; 2], Option<Path>>;
+pub type Sources = HashMap<[u64; 2], Option<Path>>;
 
 /// Puts what links that are taken do, on paths where nothing stands yet.
 pub fn put_taken(effects: &mut Effects, takes: &List<LinkRow>, fill: bool) -> Result<(), Memory>

@@ -15,8 +15,8 @@ use dl_base::{LinkNo, Memory, Path, Text};
 use fm_archive::Archive;
 use fm_branch::Branches;
 use fs_files::Files;
-use indexmap::IndexMap;
 use std::alloc::Global;
+use std::collections::HashMap;
 use std::marker::Model;
 
 /// What settling makes of the files on paths, and of which paths' files copies are made under link numbers. Contracts see both as
@@ -48,7 +48,7 @@ pub fn overlay_of(alloc: Global, store: &Store, branches: &Branches) -> Result<O
 fn effects(alloc: Global, store: &Store, branches: &Branches) -> Result<Effects, Memory>
     ensures { IfOk result (λ made. SayOf effect (open_in branches.now.links) (txs_of store.now.rows.commits) made.entries) }
 {
-    let mut made = IndexMap::new(alloc);
+    let mut made = HashMap::new(alloc);
     for i in 0..store.commits() {
         let Some((tx, _)) = store.commit_at(i + 1) else {
             return Ok(made);
@@ -61,7 +61,7 @@ fn effects(alloc: Global, store: &Store, branches: &Branches) -> Result<Effects,
 fn sources(alloc: Global, store: &Store, branches: &Branches) -> Result<Sources, Memory>
     ensures { IfOk result (λ made. SayOf sourced (open_in branches.now.links) (txs_of store.now.rows.commits) made.entries) }
 {
-    let mut made = IndexMap::new(alloc);
+    let mut made = HashMap::new(alloc);
     for i in 0..store.commits() {
         let Some((tx, _)) = store.commit_at(i + 1) else {
             return Ok(made);

@@ -5,7 +5,7 @@ use Rattle.std.proofs.lemmas.Bool.Decides.{eqb_tells}
 use Rattle.std.specs.FinMap as maps
 use Rattle.std.specs.List.{list_any, slice_get}
 use Rattle.dl_base.specs.declared.value.LinkRow.{LinkRow}
-use Rattle.fm_branch.specs.Table.{AreNamed}
+use Rattle.fm_branch.specs.Table.{HaveBranches}
 use Rattle.meaning_areas.specs.Branches.{Branch, Branches, given_on}
 use Rattle.meaning_areas.specs.Stands.{is_open, open_branch, open_in}
 use Rattle.meaning_settling.proofs.KeyedLaws.{any-append, either, is_at-same, is_at-self}
@@ -143,7 +143,7 @@ is-there : (o : Option Branch) (m : Moved) → open_branch o ≡ Some m → is_s
 is-there None m e = absurd (none_some m e)
 is-there (Some b) m e = refl
 
-pub all-apart : (l : Branches) (owners : Owners) (ts : List ℕ) (n : ℕ) → length ts ≤ n → AreNamed ts l.table → Owns l owners ts n → BranchesApart l
+pub all-apart : (l : Branches) (owners : Owners) (ts : List ℕ) (n : ℕ) → length ts ≤ n → HaveBranches ts l.table → Owns l owners ts n → BranchesApart l
 all-apart l owners ts n all named owns t u other a b at_a at_b p = by (either (has_path a p)) (either (has_path b p))
   where
     reach : (i : ℕ) → i < length ts → i < n

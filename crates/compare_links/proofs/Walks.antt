@@ -3,7 +3,7 @@ use Rattle.std.proofs.Common.{◌≡◌, inl, inr, ⊎_elim, ℕ, zero, suc, ◌
 use Rattle.std.proofs.lemmas.Bool.Decides.{eqb_tells}
 use Rattle.std.specs.FinMap as maps
 use Rattle.std.specs.List.{slice_get}
-use Rattle.fm_branch.specs.Table.{AreNamed, Table}
+use Rattle.fm_branch.specs.Table.{HaveBranches, Table}
 use Rattle.meaning_areas.specs.Branches.{Branch}
 use Rattle.meaning_areas.specs.Commits.{Commit, has_number}
 use Rattle.meaning_areas.specs.Stands.{IsCommit}
@@ -70,7 +70,7 @@ number-at tx (t ∷ ts) e = ⊎_elim (λ here. first here.1) (λ there. next (nu
         more i lt = omega (arith, lt)
 
 -- BRANCHES, by the numbers of all
-pub each-branch : (P : ℕ → Branch → Type 0) (table : Table) (ts : List ℕ) (n : ℕ) → length ts ≤ n → AreNamed ts table → HoldsBelow (λ tx. IfThere (P tx) (maps.get table tx)) ts n → EachBranch P table
+pub each-branch : (P : ℕ → Branch → Type 0) (table : Table) (ts : List ℕ) (n : ℕ) → length ts ≤ n → HaveBranches ts table → HoldsBelow (λ tx. IfThere (P tx) (maps.get table tx)) ts n → EachBranch P table
 each-branch P table ts n all named below tx b at = by (number-at tx ts (named tx ∙ ap is_some at))
   where
     by : (i : ℕ) × (i < length ts) × (slice_get ts i ≡ Some tx) → P tx b

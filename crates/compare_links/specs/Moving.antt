@@ -47,14 +47,14 @@ AreSteps number before [] = Unit {0}
 AreSteps number before (c ∷ cs) = IsStep number before c.tables × AreSteps (number + 1) c.tables cs
 
 -- columns that have no links
-abbrev pub is_plain : Kind → Bool
-is_plain kinds.Int = true
-is_plain (kinds.Text most) = true
-is_plain kinds.Free = true
-is_plain (kinds.Linked options) = false
+abbrev pub is_unlinked : Kind → Bool
+is_unlinked kinds.Int = true
+is_unlinked (kinds.Text most) = true
+is_unlinked kinds.Free = true
+is_unlinked (kinds.Linked options) = false
 
-abbrev pub are_plain : List Column → Bool
-are_plain columns = list_all (λ c. is_plain c.kind) columns
+abbrev pub are_unlinked : List Column → Bool
+are_unlinked columns = list_all (λ c. is_unlinked c.kind) columns
 
 -- LINKS, of which some are known by their numbers
 

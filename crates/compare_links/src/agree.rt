@@ -4,7 +4,7 @@ ghost use Rattle.std.specs.BTreeMap.{get};
 ghost use Rattle.std.specs.Cmp.Lexicographic.{slice_cmp};
 ghost use Rattle.std.specs.Ordering.{nat_cmp};
 ghost use Rattle.compare_every.specs.Every.{agrees};
-ghost use Rattle.compare_links.specs.Moving.{all_agree, are_plain, is_plain};
+ghost use Rattle.compare_links.specs.Moving.{all_agree, are_unlinked, is_unlinked};
 ghost use Rattle.meaning_settling.specs.Settling.{link_key};
 ghost use Rattle.meaning_tables.specs.Links as meant;
 
@@ -34,23 +34,23 @@ pub fn tables_agree(rows: &BTreeMap<[u64; 2], LinkRow>, tables: &Tables) -> bool
 fn table_agrees(rows: &BTreeMap<[u64; 2], LinkRow>, table: &Table) -> bool
     ensures { result ≡ all_agree (get (slice_cmp nat_cmp) rows.now) (meant.table_links table.now) }
 {
-    are_plain(table.columns()) || rows_agree(rows, table)
+    are_unlinked(table.columns()) || rows_agree(rows, table)
 }
 
 // Whether columns have no links.
-fn are_plain(columns: &List<Column>) -> bool
-    ensures { result ≡ are_plain columns.now }
+fn are_unlinked(columns: &List<Column>) -> bool
+    ensures { result ≡ are_unlinked columns.now }
 {
     for column in columns.as_slice() {
-        if !is_plain(column.kind) {
+        if !is_unlinked(column.kind) {
             return false;
         }
     }
     true
 }
 
-fn is_plain(kind: Kind) -> bool
-    ensures { result ≡ is_plain kind }
+fn is_unlinked(kind: Kind) -> bool
+    ensures { result ≡ is_unlinked kind }
 {
     match kind {
         Kind::Int | Kind::Text(_) | Kind::Free => true,

@@ -5,7 +5,7 @@ ghost use Rattle.std.specs.Bool.{Decides};
 ghost use Rattle.std.specs.Cmp.Lexicographic.{slice_cmp};
 ghost use Rattle.std.specs.Ordering.{nat_cmp};
 ghost use Rattle.compare_links.specs.Fitting.{BranchesApart, are_free_for, has_in_doubt, is_clear, is_free_for};
-ghost use Rattle.fm_branch.specs.Table.{AreNamed};
+ghost use Rattle.fm_branch.specs.Table.{HaveBranches};
 ghost use Rattle.meaning_areas.specs.Branches.{given_on};
 ghost use Rattle.meaning_areas.specs.Stands.{open_in};
 ghost use Rattle.meaning_settling.specs.Keyed.{is_at};
@@ -25,7 +25,7 @@ pub fn branches_are_apart(alloc: Global, branches: &Branches) -> Result<bool, Me
 
 // The same by the transactions of all branches.
 fn are_apart(alloc: Global, branches: &Branches, txs: &List<u64>) -> Result<bool, Memory>
-    requires { AreNamed txs.now branches.now.links.table }
+    requires { HaveBranches txs.now branches.now.links.table }
     ensures { IfOk result (λ apart. Decides apart (BranchesApart branches.now.links)) }
 {
     let mut owners = BTreeMap::new(alloc);

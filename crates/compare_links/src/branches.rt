@@ -5,7 +5,7 @@ ghost use Rattle.std.specs.FinMap as maps;
 ghost use Rattle.compare_links.specs.Fitting.{BranchFits, EachBranch, branch_fits};
 ghost use Rattle.compare_links.specs.Walking.{IfThere};
 ghost use Rattle.fm_branch.specs.Shown.{shown};
-ghost use Rattle.fm_branch.specs.Table.{AreNamed};
+ghost use Rattle.fm_branch.specs.Table.{HaveBranches};
 ghost use Rattle.meaning_areas.specs.Stands.{is_past};
 
 use crate::rows::are_drawn;
@@ -25,7 +25,7 @@ pub fn branches_fit(store: &Store, branches: &Branches) -> Result<bool, Memory>
 
 // Whether the branches of some transactions fit, which are all.
 fn all_fit(store: &Store, branches: &Branches, txs: &List<u64>) -> bool
-    requires { AreNamed txs.now branches.now.links.table }
+    requires { HaveBranches txs.now branches.now.links.table }
     ensures { Decides result (EachBranch (BranchFits store.now.rows) branches.now.links.table) }
 {
     for tx in txs.as_slice() {

@@ -28,7 +28,7 @@ pub fn changed_tables(alloc: Global, number: u64, after: &Tables) -> Result<Tabl
 }
 
 /// What the commit of a number gives and takes, from the tables that it changed alone: a link of another table is before it and after
-/// it. It costs what `gives_takes` does for those tables.
+/// it. It costs what `gives_takes` does for those tables, and a look-up of each table.
 pub fn moved(
     alloc: Global,
     number: u64,

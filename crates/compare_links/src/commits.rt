@@ -47,9 +47,9 @@ struct Known {
 /// ended is Done. No transaction of a commit, nor of its links, is of a later opening than the last. The links after each commit have
 /// distinct paths. No two commits have links of one number that differ in their paths or options.
 ///
-/// It costs the changes of each commit and the number of its tables. Of the tables that it changed, and no others, it costs what
-/// `gives_takes` does before and after it, and a look at each row where they have links: a link whose path is another under the same
-/// number is neither taken away nor added. Each link that is taken away or added costs a logarithm.
+/// It costs the changes of each commit, and n log n in the number of its tables. Of the tables that it changed, and no others, it
+/// costs what `gives_takes` does before and after it, and a look at each row where they have links: a link whose path is another
+/// under the same number is neither taken away nor added. Each link that is taken away or added costs a logarithm.
 pub fn commits_fit(
     alloc: Global,
     store: &Store,

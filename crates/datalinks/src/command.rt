@@ -67,7 +67,7 @@ pub fn single<S: Source, B: Bench>(
     ensures recovers { (run : Begun) → Begins words.now (S.rest source.old) (B.outside bench) run
         → EveryImageStands (B.outside bench) → (p : CrashState) → (B.outside result.1).since (B.outside bench).moment p → (x : Stored) × AreasStand (areas_of p) x }
 
-    // Every other end has its cause. Of a step the first record that has no room is what is full, and those before it are there.
+    // Every other end has its cause. Of an opening and of a step the first record that has no room is what is full, and those before it are there.
     ensures device { result.0 ≡ Status.Device → FaultCounted (B.outside bench) (B.outside result.1) }
     ensures source { result.0 ≡ Status.Source → RoseFrom (S.faults source.old) (S.faults source.new) × (result.1 ≡ bench) }
     ensures too_long { (n : ℕ) → result.0 ≡ Status.TooLong n → IsTooLong n (S.rest source.old) (S.rest source.new) × (result.1 ≡ bench) }

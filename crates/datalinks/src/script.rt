@@ -15,7 +15,7 @@ const MOST: usize = MOST_SCRIPT_BYTES;
 const CHUNK: usize = 8_192;
 
 /// Why a script was not read.
-#[derive(Clone, Copy, Debug)]
+#[derive(Clone, Copy)]
 pub enum ScriptFault {
     Source,
     /// How many bytes were taken.

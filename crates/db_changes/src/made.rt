@@ -47,8 +47,8 @@ impl Model for Made {
 
 impl Made {
     /// What a transaction has made of the tables of its base: its copy, in which beside new and dropped tables only touched rows
-    /// differ, and at most 256 tables are new. The error is want of memory. The cost grows with the number of tables, with the
-    /// touched rows, times the logarithm of the rows of their tables, and with the rows of new tables.
+    /// differ, and at most 256 tables are new. The error is want of memory. The cost is n log n in the number of tables, and grows
+    /// with the touched rows, times the logarithm of the rows of their tables, and with the rows of new tables.
     #[tactic(auto, using(crate::proofs::Counting::few_new, crate::proofs::Counting::order_new, crate::proofs::Gathered::made_as))]
     pub fn new(
         alloc: Global,

@@ -16,7 +16,8 @@ use Rattle.meaning_sql.specs.Faults.{◌>>=◌, ensure}
 use Rattle.meaning_statements.specs.Creating.{columns_made, is_datalink, kind_made, rule_made, rules_fit}
 use Rattle.meaning_tables.specs.Fits.{differ, is_key}
 use Rattle.meaning_tables.specs.OptionRows.{is_option_row}
-use Rattle.db_replay.specs.Columns.{is_plain, kind_stands, rule_stands, rules_stand}
+use Rattle.meaning_statements.specs.Assigning.{is_plain}
+use Rattle.db_replay.specs.Columns.{kind_stands, rule_stands, rules_stand}
 use Rattle.db_replay.proofs.Bools.{joined}
 use Rattle.db_replay.proofs.Differ.{fresh, fresh_all}
 

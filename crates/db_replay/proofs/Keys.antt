@@ -9,7 +9,8 @@ use Rattle.dl_base.specs.declared.value.Value.{Value}
 use Rattle.meaning_tables.specs.First.{first_number, has_key}
 use Rattle.meaning_tables.specs.Fits.{fits_columns, fits_kind, fits_rule, is_key, key_of, same_key}
 use Rattle.meaning_statements.specs.Creating.{is_datalink}
-use Rattle.db_replay.specs.Columns.{is_plain, kind_stands, rule_stands, rules_stand}
+use Rattle.meaning_statements.specs.Assigning.{is_plain}
+use Rattle.db_replay.specs.Columns.{kind_stands, rule_stands, rules_stand}
 use Rattle.db_replay.specs.Standing.{key_is_new}
 use Rattle.db_replay.proofs.Bools.{and_true, or_false}
 

@@ -1,23 +1,18 @@
 -- Columns that CREATE TABLE could have made, asked without the definitions that it would have made them of.
-use Rattle.std.specs.Prelude.{◌&&◌, ◌||◌, Bool, true, false, not, List, [], ◌∷◌, nat_lt, nat_le}
+use Rattle.std.specs.Prelude.{◌&&◌, ◌||◌, Bool, true, not, List, [], ◌∷◌, nat_lt, nat_le}
+use Rattle.dl_base.specs.Limits.{most_varchar_bytes}
 use Rattle.dl_base.specs.declared.column.Column.{Column}
-use Rattle.dl_base.specs.declared.column.ColumnRule.{ColumnRule}
-use Rattle.dl_base.specs.declared.column.ColumnRule.TheVariants as rules
 use Rattle.dl_base.specs.declared.column.Kind.{Kind}
 use Rattle.dl_base.specs.declared.column.Kind.TheVariants as kinds
+use Rattle.meaning_statements.specs.Assigning.{is_plain}
 use Rattle.meaning_statements.specs.Creating.{is_datalink}
 use Rattle.meaning_tables.specs.Fits.{is_key}
 use Rattle.meaning_tables.specs.OptionRows.{is_option_row}
 
-abbrev pub is_plain : ColumnRule → Bool
-is_plain rules.Plain = true
-is_plain rules.NotNull = false
-is_plain rules.Key = false
-
 -- a length from 1 to 4,000 bytes, options that are one of the seven rows
 abbrev pub kind_stands : Kind → Bool
 kind_stands kinds.Int = true
-kind_stands (kinds.Text most) = nat_lt 0 most && nat_le most 4000
+kind_stands (kinds.Text most) = nat_lt 0 most && nat_le most most_varchar_bytes
 kind_stands kinds.Free = true
 kind_stands (kinds.Linked options) = is_option_row options
 

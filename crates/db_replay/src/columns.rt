@@ -4,9 +4,10 @@ ghost use Rattle.std.specs.List.{list_any};
 ghost use Rattle.meaning_areas.specs.Commits as commits;
 ghost use Rattle.meaning_statements.specs.Creating as creating;
 ghost use Rattle.meaning_tables.specs.Fits.{differ, is_key};
-ghost use Rattle.db_replay.specs.Columns.{is_plain, kind_stands, rule_stands, rules_stand};
+ghost use Rattle.meaning_statements.specs.Assigning.{is_plain};
+ghost use Rattle.db_replay.specs.Columns.{kind_stands, rule_stands, rules_stand};
 
-use dl_base::limits::MOST_COLUMNS;
+use dl_base::limits::{MOST_COLUMNS, MOST_VARCHAR_BYTES};
 use dl_base::{Column, ColumnRule, Kind, List, Name};
 use meaning_tables::is_option_row;
 
@@ -60,7 +61,7 @@ fn kind_stands(kind: Kind) -> bool
 {
     match kind {
         Kind::Int => true,
-        Kind::Text(most) => 0 < most && most <= 4000,
+        Kind::Text(most) => 0 < most && most <= MOST_VARCHAR_BYTES,
         Kind::Free => true,
         Kind::Linked(options) => is_option_row(&options),
     }

@@ -2,6 +2,7 @@ pub mod Committing
 pub mod Ending
 pub mod Folding
 pub mod HistoryLaws
+pub mod Known
 pub mod Left
 pub mod LogLaws
 pub mod Named

@@ -1,14 +1,13 @@
 -- Commits as they are kept, and what they stand for.
-use Rattle.std.proofs.Common.{◌≡◌, ℕ, zero, suc, ◌+◌, ◌-◌, ◌<◌, ◌≤◌, ◌||◌, Bool, true, false, not, cond, List, [], ◌∷◌, ◌++◌, length, drop, Option, Some, None, IfSome, is_none, is_some, nat_eq, add-one, refl, sym, ap, subst, ◌∙◌, arith}
+use Rattle.std.proofs.Common.{◌≡◌, ℕ, zero, suc, ◌+◌, ◌-◌, ◌<◌, ◌≤◌, Bool, true, false, not, cond, List, [], ◌∷◌, ◌++◌, length, drop, Option, Some, None, IfSome, is_none, is_some, nat_eq, add-one, refl, sym, ap, subst, ◌∙◌, arith}
 use Rattle.std.proofs.lemmas.Bool.{and_from, and_parts}
 use Rattle.std.proofs.lemmas.Cmp.{nat_eq_equiv}
-use Rattle.std.specs.List.{list_any, slice_get}
+use Rattle.std.specs.List.{slice_get}
 use Rattle.std.specs.Map.{lookup}
-use Rattle.std.specs.Option.{option_map}
-use Rattle.indexmap.specs.IndexSet.{insert_key}
+use Rattle.std.specs.Option.{option_map, unwrap_or}
 use Rattle.db_replay.specs.Applying.{are_new}
 use Rattle.db_replay.specs.Changes.{applied}
-use Rattle.meaning_areas.specs.Commits.{Commit, commit_of, commit_to, has_number, tables_after}
+use Rattle.meaning_areas.specs.Commits.{Commit, commit_of, commit_to, tables_after}
 use Rattle.meaning_areas.specs.Stands.{past}
 use Rattle.meaning_tables.specs.Tables.{Tables}
 use Rattle.db_store.specs.Log.{after_first, all_new, commit_between, commit_numbered, commits_from, has_branch}
@@ -83,21 +82,15 @@ entry_of tx before (e ∷ es) = by (nat_eq e.0 tx) (nat_eq tx e.0) (nat_eq_equiv
     by false true same go = cc same
     by false false same go = go
 
-abbrev pub branch_in : Option Entry → Bool
-branch_in None = false
-branch_in (Some e) = e.branch
+mapped-branch : (o : Option Commit) → has_branch o ≡ unwrap_or (option_map (λ c. c.branch) o) false
+mapped-branch None = refl
+mapped-branch (Some c) = refl
 
-mapped-branch : (o : Option Commit) (p : Option Entry) → option_map (λ c. c.branch) o ≡ option_map (λ e. e.branch) p → has_branch o ≡ branch_in p
-mapped-branch None None e = refl
-mapped-branch None (Some x) e = cc e
-mapped-branch (Some c) None e = cc e
-mapped-branch (Some c) (Some x) e = cc e
+-- by what is known of the transaction's branch
+pub branch_back : (tx : ℕ) (es : List (ℕ × Entry)) (o : Option Bool) → o ≡ option_map (λ e. e.branch) (lookup (λ k. nat_eq tx k) es) → unwrap_or o false ≡ has_branch (commit_of tx (commits_from [] es))
+branch_back tx es o is = ap (λ (p : Option Bool). unwrap_or p false) (is ∙ sym (entry_of tx [] es)) ∙ sym (mapped-branch (commit_of tx (commits_from [] es)))
 
--- by the entry of the transaction
-pub branch_back : (tx : ℕ) (es : List (ℕ × Entry)) (b : Bool) → b ≡ branch_in (lookup (λ k. nat_eq tx k) es) → b ≡ has_branch (commit_of tx (commits_from [] es))
-branch_back tx es b is = is ∙ sym (mapped-branch (commit_of tx (commits_from [] es)) (lookup (λ k. nat_eq tx k) es) (entry_of tx [] es))
-
-some-mapped : {A B : Type 0} (f : A → B) (o : Option A) → is_some (option_map f o) ≡ is_some o
+pub some-mapped : {A B : Type 0} (f : A → B) (o : Option A) → is_some (option_map f o) ≡ is_some o
 some-mapped f (Some x) = refl
 some-mapped f None = refl
 
@@ -130,20 +123,6 @@ lacking b o is = ap not is ∙ not_some o
 -- the next commit is of a transaction that has none
 pub none_yet : (tx : ℕ) (es : List (ℕ × Entry)) → is_none (commit_of tx (commits_from [] es)) ≡ true → lookup (λ k. nat_eq tx k) es ≡ None
 none_yet tx es e = none_there (lookup (λ k. nat_eq tx k) es) (sym (has_none tx [] es) ∙ e)
-
--- ended transactions
-pub number-among : (tx : ℕ) (ks : List ℕ) → has_number tx ks ≡ list_any (λ k. nat_eq tx k) ks
-number-among tx [] = refl
-number-among tx (k ∷ ks) = by (nat_eq k tx) (nat_eq tx k) (nat_eq_equiv.symm k tx) (number-among tx ks)
-  where
-    by : (b d : Bool) → b ≡ d → has_number tx ks ≡ list_any (λ k. nat_eq tx k) ks → cond b true (has_number tx ks) ≡ (d || list_any (λ k. nat_eq tx k) ks)
-    by true true same go = refl
-    by true false same go = cc same
-    by false true same go = cc same
-    by false false same go = go
-
-pub number_put : (tx : ℕ) (ks more : List ℕ) → more ≡ insert_key nat_eq ks tx → has_number tx ks ≡ false → more ≡ ks ++ tx ∷ []
-number_put tx ks more put none = put ∙ ap (λ b. cond b ks (ks ++ tx ∷ [])) (sym (number-among tx ks) ∙ none)
 
 -- the tables after some of the commits, one entry after another
 pub past-none : (before : Tables) (es : List (ℕ × Entry)) (n : ℕ) → length es < n → past before (commits_from before es) n ≡ None

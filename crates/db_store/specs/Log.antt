@@ -1,6 +1,12 @@
 -- Commits as they are kept: what each made of the tables before it; and the branches that have ended.
-use Rattle.std.specs.Prelude.{◌≡◌, ℕ, zero, suc, ◌+◌, ◌&&◌, Bool, true, false, not, IsTrue, if◌then◌else◌, List, [], ◌∷◌, Option, Some, None, slice_get}
+use Rattle.std.specs.Prelude.{◌≡◌, ℕ, zero, suc, ◌+◌, ◌&&◌, Bool, true, false, not, IsTrue, if◌then◌else◌, List, [], ◌∷◌, Option, Some, None, nat_eq, slice_get}
+use Rattle.std.specs.HashMap as hash
+use Rattle.std.specs.HashMap.{HashMap}
+use Rattle.std.specs.HashSet as set
+use Rattle.std.specs.HashSet.{HashSet}
 use Rattle.std.specs.List.{list_all}
+use Rattle.std.specs.Map.{lookup}
+use Rattle.std.specs.Option.{option_map}
 use Rattle.db_changes.specs.Touched.{are_committed}
 use Rattle.db_replay.specs.Applying.{are_new}
 use Rattle.db_replay.specs.Changes.{applied}
@@ -13,6 +19,10 @@ use Rattle.meaning_tables.specs.Tables.{Tables}
 pub record Log : Type 0 where
   pub entries : List (ℕ × Entry)
   pub spare : ℕ
+
+-- a map has for each transaction with a commit whether that has a branch, and nothing for others
+abbrev pub KnowsBranches : {S : Type 0} → HashMap ℕ Bool S → List (ℕ × Entry) → Type 0
+KnowsBranches branches es = (tx : ℕ) → hash.get nat_eq branches tx ≡ option_map (λ e. e.branch) (lookup (λ k. nat_eq tx k) es)
 
 -- a commit that leads from some tables to others
 abbrev pub commit_between : Tables → ℕ → Bool → Tables → Commit
@@ -60,6 +70,10 @@ AllCommitted cs = list_all (λ c. are_committed c.tables) cs ≡ true
 pub record Ended : Type 0 where
   pub numbers : List ℕ
   pub spare : ℕ
+
+-- a set has the numbers of a list, and no others
+abbrev pub KnowsNumbers : {S : Type 0} → HashSet ℕ S → List ℕ → Type 0
+KnowsNumbers known numbers = (tx : ℕ) → set.contains nat_eq known tx ≡ has_number tx numbers
 
 -- a commit with a branch that has not ended, and how many there are
 abbrev pub is_open : List ℕ → Commit → Bool

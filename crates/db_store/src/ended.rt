@@ -1,26 +1,32 @@
 // The branches that have ended.
-ghost use Rattle.std.specs.Prelude.{◌≡◌, ◌+◌, ◌<◌, ◌≤◌, ◌++◌, ◌∷◌, [], IsOk, OnOk, false};
-ghost use Rattle.indexmap.specs.IndexSet.{spare as room};
+ghost use Rattle.std.specs.Prelude.{◌≡◌, ◌+◌, ◌<◌, ◌≤◌, ◌++◌, ◌∷◌, [], OnOk, false, nat_eq, true};
+ghost use Rattle.std.specs.HashSet.{Updates, spare as room};
 ghost use Rattle.meaning_areas.specs.Commits.{has_number};
 
 use dl_base::Memory;
-use indexmap::IndexSet;
 use std::alloc::Global;
+use std::collections::HashSet;
 use std::marker::Model;
 
-/// Transactions whose branches have ended, in the order of their ends. Contracts see the list, and for how many more there is room.
+/// Transactions whose branches have ended: the list in the order of their ends, and the set of them. Contracts see the list, and for
+/// how many more there is room.
 #[derive(Drop)]
 pub struct Ended {
-    numbers: IndexSet<u64>,
+    numbers: Vec<u64>,
+    known: HashSet<u64>,
 }
 
 impl Model for Ended {
-    ghost use Rattle.indexmap.specs.IndexSet.{spare as room};
-    ghost use Rattle.db_store.specs.Log.{Ended as Kept};
+    ghost use Rattle.std.specs.Prelude.{◌-◌, min};
+    ghost use Rattle.std.specs.HashSet.{spare as room};
+    ghost use Rattle.std.specs.Vec.{vec_capacity, vec_len};
+    ghost use Rattle.db_store.specs.Log.{Ended as Kept, KnowsNumbers};
 
     ghost Value = { Kept };
 
-    ghost view = { λ e. record { numbers = e.numbers.keys; spare = room e.numbers } };
+    ghost view = { λ e. record { numbers = e.numbers.items; spare = min (vec_capacity e.numbers - vec_len e.numbers) (room e.known) } };
+
+    ghost invariant = { λ e. KnowsNumbers e.known e.numbers.items };
 }
 
 impl Ended {
@@ -29,7 +35,8 @@ impl Ended {
         ensures { result.numbers ≡ [] }
     {
         Ended {
-            numbers: IndexSet::new(alloc),
+            numbers: Vec::new(alloc),
+            known: HashSet::new(alloc),
         }
     }
 
@@ -37,7 +44,7 @@ impl Ended {
     pub fn has(&self, tx: u64) -> bool
         ensures { result ≡ has_number tx self.now.numbers }
     {
-        self.numbers.contains(&tx)
+        self.known.contains(&tx)
     }
 
     /// Makes room for so many more.
@@ -47,6 +54,7 @@ impl Ended {
         ensures spare { self.old.spare ≤ self.new.spare }
     {
         self.numbers.reserve(count)?;
+        self.known.reserve(count)?;
         Ok(())
     }
 
@@ -57,17 +65,16 @@ impl Ended {
         ensures numbers { self.new.numbers ≡ self.old.numbers ++ tx ∷ [] }
         ensures spare { self.old.spare ≤ self.new.spare + 1 }
     {
-        let _ = insert(&mut self.numbers, tx);
+        know(&mut self.known, tx);
+        self.numbers.push_reserved(tx);
     }
 }
 
-// Puts a number at the end. Where there is room it takes no memory.
-fn insert(numbers: &mut IndexSet<u64>, tx: u64) -> Result<(), Memory>
-    requires { has_number tx numbers.old.keys ≡ false }
-    ensures ok { OnOk result (numbers.new.keys ≡ numbers.old.keys ++ tx ∷ []) }
-    ensures room { 0 < room numbers.old → IsOk result }
-    ensures spare { room numbers.old ≤ room numbers.new + 1 }
+// Puts a number into the set, for which there is room. It takes no memory.
+fn know(known: &mut HashSet<u64>, tx: u64)
+    requires { 0 < room known.old }
+    ensures known { Updates nat_eq known.old known.new tx true }
+    ensures spare { room known.old ≤ room known.new + 1 }
 {
-    numbers.insert(tx)?;
-    Ok(())
+    let _ = known.insert(tx);
 }

@@ -1,15 +1,15 @@
 // The commits in memory, by transaction number.
-ghost use Rattle.std.specs.Prelude.{◌≡◌, ◌+◌, ◌<◌, ◌≤◌, ◌^◌, ◌++◌, ◌∷◌, [], None, IsOk, IfOk, OnOk, MatchOption, drop, is_none, is_some, length, nat_eq, slice_get};
+ghost use Rattle.std.specs.Prelude.{◌≡◌, ◌+◌, ◌<◌, ◌≤◌, ◌^◌, ◌++◌, ◌∷◌, [], None, Some, OnOk, MatchOption, drop, is_none, is_some, length, nat_eq, slice_get};
+ghost use Rattle.std.specs.HashMap.{Updates, spare as room};
 ghost use Rattle.std.specs.Map.{lookup};
 ghost use Rattle.std.specs.Option.{option_map};
-ghost use Rattle.indexmap.specs.IndexMap.{spare as room};
 ghost use Rattle.db_store.specs.Log.{commit_numbered, commits_from, has_branch};
 ghost use Rattle.meaning_areas.specs.Commits.{commit_of};
 
 use db_replay::Change;
 use dl_base::{List, Memory};
-use indexmap::IndexMap;
 use std::alloc::Global;
+use std::collections::HashMap;
 use std::marker::Model;
 
 /// A commit: whether its transaction has a branch, and what it made of the tables before it.
@@ -19,19 +19,25 @@ pub struct Entry {
     pub changes: List<Change>,
 }
 
-/// Commits by transaction number, in order. Contracts see the list, and for how many more there is room.
+/// Commits by transaction number: the list of them in order, and by number whether a transaction has a branch. Contracts see the
+/// list, and for how many more there is room.
 #[derive(Drop)]
 pub struct Log {
-    entries: IndexMap<u64, Entry>,
+    entries: Vec<(u64, Entry)>,
+    branches: HashMap<u64, bool>,
 }
 
 impl Model for Log {
-    ghost use Rattle.indexmap.specs.IndexMap.{spare as room};
-    ghost use Rattle.db_store.specs.Log.{Log as Kept};
+    ghost use Rattle.std.specs.Prelude.{◌-◌, min};
+    ghost use Rattle.std.specs.HashMap.{spare as room};
+    ghost use Rattle.std.specs.Vec.{vec_capacity, vec_len};
+    ghost use Rattle.db_store.specs.Log.{KnowsBranches, Log as Kept};
 
     ghost Value = { Kept };
 
-    ghost view = { λ l. record { entries = l.entries.entries; spare = room l.entries } };
+    ghost view = { λ l. record { entries = l.entries.items; spare = min (vec_capacity l.entries - vec_len l.entries) (room l.branches) } };
+
+    ghost invariant = { λ l. KnowsBranches l.branches l.entries.items };
 }
 
 impl Log {
@@ -40,7 +46,8 @@ impl Log {
         ensures { result.entries ≡ [] }
     {
         Log {
-            entries: IndexMap::new(alloc),
+            entries: Vec::new(alloc),
+            branches: HashMap::new(alloc),
         }
     }
 
@@ -58,7 +65,10 @@ impl Log {
         ensures value { option_map (λ e. (e.0.now, e.1.now)) result ≡ slice_get self.now.entries index }
         ensures left { MatchOption result (drop index self.now.entries ≡ []) (λ e. drop index self.now.entries ≡ (e.0.now, e.1.now) ∷ drop (index + 1) self.now.entries) }
     {
-        self.entries.get_index(index)
+        match self.entries.get(index) {
+            Some((tx, entry)) => Some((tx, entry)),
+            None => None,
+        }
     }
 
     /// Whether a transaction has a commit. It takes no memory.
@@ -66,7 +76,7 @@ impl Log {
         ensures entry { result ≡ is_some (lookup (λ k. nat_eq tx k) self.now.entries) }
         ensures commit { result ≡ is_some (commit_of tx (commits_from [] self.now.entries)) }
     {
-        self.entries.contains_key(&tx)
+        self.branches.contains_key(&tx)
     }
 
     /// Whether a transaction has no commit. It takes no memory.
@@ -77,12 +87,11 @@ impl Log {
     }
 
     /// Whether a transaction has a commit with a branch. It takes no memory.
-    #[tactic(auto, using(crate::proofs::LogLaws::branch_back))]
     pub fn has_branch(&self, tx: u64) -> bool
         ensures { result ≡ has_branch (commit_of tx (commits_from [] self.now.entries)) }
     {
-        match self.entries.get(&tx) {
-            Some(entry) => entry.branch,
+        match self.branches.get(&tx) {
+            Some(branch) => *branch,
             None => false,
         }
     }
@@ -109,6 +118,7 @@ impl Log {
         ensures spare { self.old.spare ≤ self.new.spare }
     {
         self.entries.reserve(count)?;
+        self.branches.reserve(count)?;
         Ok(())
     }
 
@@ -119,17 +129,16 @@ impl Log {
         ensures entries { self.new.entries ≡ self.old.entries ++ (tx, entry) ∷ [] }
         ensures spare { self.old.spare ≤ self.new.spare + 1 }
     {
-        let _ = insert(&mut self.entries, tx, entry);
+        know(&mut self.branches, tx, entry.branch);
+        self.entries.push_reserved((tx, entry));
     }
 }
 
-// Puts a commit at the end. Where there is room it takes no memory.
-fn insert(entries: &mut IndexMap<u64, Entry>, tx: u64, entry: Entry) -> Result<(), Memory>
-    requires { lookup (λ k. nat_eq tx k) entries.old.entries ≡ None }
-    ensures ok { OnOk result (entries.new.entries ≡ entries.old.entries ++ (tx, entry) ∷ []) }
-    ensures room { 0 < room entries.old → IsOk result }
-    ensures spare { room entries.old ≤ room entries.new + 1 }
+// Puts into the map whether a transaction has a branch, for which there is room. It takes no memory.
+fn know(branches: &mut HashMap<u64, bool>, tx: u64, branch: bool)
+    requires { 0 < room branches.old }
+    ensures branches { Updates nat_eq branches.old branches.new tx (Some branch) }
+    ensures spare { room branches.old ≤ room branches.new + 1 }
 {
-    entries.insert(tx, entry)?;
-    Ok(())
+    let _ = branches.insert(tx, branch);
 }

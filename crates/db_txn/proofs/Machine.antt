@@ -10,7 +10,7 @@ use Rattle.meaning_statements.specs.Selecting.{select}
 use Rattle.meaning_system.specs.Sql.{Evaluated, after_change, after_select, evaluated}
 use Rattle.meaning_tables.specs.Tables.{Tables}
 use Rattle.sql_run.specs.Outcomes as run
-use Rattle.db_txn.specs.Transaction.{is_plain, is_refused}
+use Rattle.db_txn.specs.Transaction.{is_evaluated, is_refused}
 
 -- what is told of an evaluation
 abbrev told : run.Evaluated → Evaluated
@@ -28,7 +28,7 @@ selected : (tables : Tables) (k : ℕ) (r : Result (List Row) SqlFault) → afte
 selected tables k (Ok rows) = refl
 selected tables k (Err fault) = refl
 
-pub the_machines : (tables : Tables) (stmt : Stmt) (context : Context) (k : ℕ) → is_plain stmt ≡ true → evaluated tables stmt context k ≡ told (run.evaluated tables stmt context k)
+pub the_machines : (tables : Tables) (stmt : Stmt) (context : Context) (k : ℕ) → is_evaluated stmt ≡ true → evaluated tables stmt context k ≡ told (run.evaluated tables stmt context k)
 unfolding evaluated
 the_machines tables (statements.CreateTable name columns) context k plain = defined tables k (change tables (statements.CreateTable name columns) context k)
 the_machines tables (statements.DropTable name) context k plain = defined tables k (change tables (statements.DropTable name) context k)

@@ -42,11 +42,11 @@ abbrev pub begun : ℕ → ℕ → Tables → Transaction
 begun session tx tables = record { session = session; tx = Some tx; base = tables; copy = tables; named = []; next = 1; made = false; kept = None }
 
 -- none of BEGIN, COMMIT and ROLLBACK
-abbrev pub is_plain : Stmt → Bool
-is_plain statements.Begin = false
-is_plain statements.Commit = false
-is_plain statements.Rollback = false
-is_plain _ = true
+abbrev pub is_evaluated : Stmt → Bool
+is_evaluated statements.Begin = false
+is_evaluated statements.Commit = false
+is_evaluated statements.Rollback = false
+is_evaluated _ = true
 
 abbrev pub is_refused : Outcome → Bool
 is_refused (outcomes.Refused fault) = true

@@ -8,7 +8,7 @@ ghost use Rattle.meaning_tables.specs.Fits.{RowsFit};
 ghost use Rattle.meaning_tables.specs.Links.{gives, takes};
 ghost use Rattle.sql_run.specs.Outcomes.{evaluated as meant};
 ghost use Rattle.sql_run.specs.declared.evaluating.Outcome.TheVariants as outcomes;
-ghost use Rattle.db_txn.specs.Transaction.{after_evaluation, back_to, begun, made_of, is_plain, standing, undone_to, vacant, with_made};
+ghost use Rattle.db_txn.specs.Transaction.{after_evaluation, back_to, begun, made_of, is_evaluated, standing, undone_to, vacant, with_made};
 
 use crate::branch::has_branch;
 use crate::work::{Before, Work, evaluated};
@@ -93,7 +93,7 @@ impl Txn {
     pub fn evaluate(&mut self, stmt: &Stmt, context: &Context) -> Result<(), Memory>
         requires begun { self.old.tx ≡ Some context.now.tx }
         requires active { self.old.made ≡ false }
-        requires plain { is_plain stmt.now ≡ true }
+        requires plain { is_evaluated stmt.now ≡ true }
         ensures ok { OnOk result (self.new ≡ after_evaluation self.old stmt.now (meant self.old.copy stmt.now context.entry.now self.old.next)) }
         ensures err { OnErr result (self.new ≡ self.old) }
     {
@@ -201,8 +201,8 @@ impl Txn {
     }
 
     /// The links that the transaction gives and those that it takes, in the order of tables, rows and columns. The error is want of
-    /// memory. Of tables that both have only the rows that its statements touched are looked at, so the cost grows with the number of
-    /// tables, with the touched rows, and with the rows of new tables and of dropped ones.
+    /// memory. Of tables that both have only the rows that its statements touched are looked at, so the cost is n log n in the
+    /// number of tables, and grows with the touched rows, and with the rows of new tables and of dropped ones.
     pub fn moved(&self) -> Result<(List<LinkRow>, List<LinkRow>), Memory>
         ensures { IfOk result (λ made. (made.0 ≡ gives self.now.base self.now.copy) × (made.1 ≡ takes self.now.base self.now.copy)) }
     {
@@ -210,8 +210,8 @@ impl Txn {
     }
 
     /// What the transaction has made of its base, with a branch exactly where it gives or takes a link; from then on it is not
-    /// active. After an `Err`, which is want of memory, all is as it was. The cost grows with the number of tables, with the touched
-    /// rows, and with the rows of new tables and of dropped ones.
+    /// active. After an `Err`, which is want of memory, all is as it was. The cost is n log n in the number of tables, and grows
+    /// with the touched rows, and with the rows of new tables and of dropped ones.
     pub fn made(&mut self) -> Result<Made, Memory>
         requires begun { is_some self.old.tx ≡ true }
         requires active { self.old.made ≡ false }

@@ -14,7 +14,7 @@ use Rattle.dl_journal.specs.Extent.{Extent}
 use Rattle.dl_journal.specs.Open.{IsOpen, Keeps, AddsOne, grown}
 use Rattle.dl_journal.specs.Records.{IsAtRest}
 use Rattle.dl_areas.specs.Lists.{Lists, Journals, Write, write_of, put, puts, grown_by, with_journal, AreReady, AreKept}
-use Rattle.dl_areas.specs.Writing.{full_in, fitting, past_limit, unless, LeavesPrefix, Does, DoesAlone}
+use Rattle.dl_areas.specs.Writing.{full_in, fitting, past_limit, unless_full, LeavesPrefix, Does, DoesAlone}
 use Rattle.dl_areas.proofs.Doing.{does-none, does-then, does-stop}
 use Rattle.dl_areas.proofs.Places.{each, here, there, with-here, with-other, with-same, with-over}
 
@@ -103,7 +103,7 @@ module _ (js : Journals) (j k : Extent) (body : List ℕ) (o n : Outside) (ready
       last (Some f) = refl
       last None = refl
 
-  fitting-one : fitting js (w ∷ []) ≡ unless (past_limit js w) (w ∷ [])
+  fitting-one : fitting js (w ∷ []) ≡ unless_full (past_limit js w) (w ∷ [])
   unfolding fitting
   fitting-one = refl
 
@@ -113,7 +113,7 @@ module _ (js : Journals) (j k : Extent) (body : List ℕ) (o n : Outside) (ready
   one-fits is = full-one ∙ past false is
 
   one-fitting : nat_lt j.limit (j.length + 9 + length body) ≡ false → fitting js (w ∷ []) ≡ w ∷ []
-  one-fitting is = fitting-one ∙ ap (λ (x : Option Full). unless x (w ∷ [])) (past false is)
+  one-fitting is = fitting-one ∙ ap (λ (x : Option Full). unless_full x (w ∷ [])) (past false is)
 
   fitting-moments : nat_lt j.limit (j.length + 9 + length body) ≡ false → ChangesOnly j.area (AddsOne j body o) o n → (lists : Lists) → AreKept js lists o → AtEveryMoment (LeavesPrefix lists (fitting js (w ∷ [])) o) o n
   fitting-moments is adds lists kept = subst (λ (ws : List Write). AtEveryMoment (LeavesPrefix lists ws o) o n) (sym (one-fitting is)) (one-moments adds lists kept)
@@ -164,7 +164,7 @@ module _ (js : Journals) (j k : Extent) (body : List ℕ) (o n : Outside) (ready
   does-full (Ok x) is still adds kept e = absurd cc
   does-full (Err fault) is still adds kept e =
       let full : Some (full_now j body) ≡ full_in js (w ∷ []) = sym (full-one ∙ past true is) in
-      let none : fitting js (w ∷ []) ≡ [] = fitting-one ∙ ap (λ (x : Option Full). unless x (w ∷ [])) (past true is) in
+      let none : fitting js (w ∷ []) ≡ [] = fitting-one ∙ ap (λ (x : Option Full). unless_full x (w ∷ [])) (past true is) in
       let unmoved : with_journal k js ≡ js = ap (λ (e : Extent). with_journal e js) kept ∙ with-same j js at in
       record {
         told = adds.told;

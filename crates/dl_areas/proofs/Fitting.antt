@@ -3,7 +3,7 @@ use Rattle.std.proofs.Common.{◌≡◌, List, [], ◌∷◌, ◌++◌, refl, �
 use Rattle.std.specs.Option.{option_or}
 use Rattle.dl_base.specs.declared.fault.Full.{Full}
 use Rattle.dl_areas.specs.Lists.{Lists, Journals, Write, put, puts, grown_by, all_grown}
-use Rattle.dl_areas.specs.Writing.{unless, refused, full_in, fitting}
+use Rattle.dl_areas.specs.Writing.{unless_full, refused, full_in, fitting}
 
 pub puts-then : (ws vs : List Write) (lists : Lists) → puts (ws ++ vs) lists ≡ puts vs (puts ws lists)
 puts-then [] vs lists = refl
@@ -31,7 +31,7 @@ unfolding full_in fitting
 fitting-then [] vs js fit = refl
 fitting-then (w ∷ ws) vs js fit =
     let e = or-none (refused js w) (full_in (grown_by w js) ws) fit in
-    ap (λ (o : Option Full). unless o (w ∷ fitting (grown_by w js) (ws ++ vs))) e.0 ∙ ap (λ (l : List Write). w ∷ l) (fitting-then ws vs (grown_by w js) e.1)
+    ap (λ (o : Option Full). unless_full o (w ∷ fitting (grown_by w js) (ws ++ vs))) e.0 ∙ ap (λ (l : List Write). w ∷ l) (fitting-then ws vs (grown_by w js) e.1)
 
 -- where one of the first doesn't fit
 
@@ -44,7 +44,7 @@ unfolding full_in
 full-stop [] vs js f is = absurd cc
 full-stop (w ∷ ws) vs js f is = some-or (refused js w) (full_in (grown_by w js) ws) (full_in (grown_by w js) (ws ++ vs)) f is (full-stop ws vs (grown_by w js) f)
 
-stop-at : (a b : Option Full) (w : Write) (xs ys : List Write) (f : Full) → option_or a b ≡ Some f → (b ≡ Some f → xs ≡ ys) → unless a (w ∷ xs) ≡ unless a (w ∷ ys)
+stop-at : (a b : Option Full) (w : Write) (xs ys : List Write) (f : Full) → option_or a b ≡ Some f → (b ≡ Some f → xs ≡ ys) → unless_full a (w ∷ xs) ≡ unless_full a (w ∷ ys)
 stop-at (Some g) b w xs ys f is same = refl
 stop-at None b w xs ys f is same = ap (λ (l : List Write). w ∷ l) (same is)
 
@@ -59,11 +59,11 @@ unfolding full_in fitting
 fitting-all [] js fit = refl
 fitting-all (w ∷ ws) js fit =
     let e = or-none (refused js w) (full_in (grown_by w js) ws) fit in
-    ap (λ (o : Option Full). unless o (w ∷ fitting (grown_by w js) ws)) e.0 ∙ ap (λ (l : List Write). w ∷ l) (fitting-all ws (grown_by w js) e.1)
+    ap (λ (o : Option Full). unless_full o (w ∷ fitting (grown_by w js) ws)) e.0 ∙ ap (λ (l : List Write). w ∷ l) (fitting-all ws (grown_by w js) e.1)
 
 -- those that fit of some are a prefix of those that fit of more
 
-more-at : (a : Option Full) (w : Write) (xs ys : List Write) → (rest : List Write) × (xs ++ rest ≡ ys) → (rest : List Write) × (unless a (w ∷ xs) ++ rest ≡ unless a (w ∷ ys))
+more-at : (a : Option Full) (w : Write) (xs ys : List Write) → (rest : List Write) × (xs ++ rest ≡ ys) → (rest : List Write) × (unless_full a (w ∷ xs) ++ rest ≡ unless_full a (w ∷ ys))
 more-at (Some g) w xs ys r = ([], refl)
 more-at None w xs ys r = (r.0, ap (λ (l : List Write). w ∷ l) r.1)
 
@@ -78,6 +78,6 @@ unfolding fitting
 fitting-rest [] js = ([], refl)
 fitting-rest (w ∷ ws) js = at (refused js w) (fitting (grown_by w js) ws) (fitting-rest ws (grown_by w js))
   where
-    at : (a : Option Full) (xs : List Write) → (rest : List Write) × (xs ++ rest ≡ ws) → (rest : List Write) × (unless a (w ∷ xs) ++ rest ≡ w ∷ ws)
+    at : (a : Option Full) (xs : List Write) → (rest : List Write) × (xs ++ rest ≡ ws) → (rest : List Write) × (unless_full a (w ∷ xs) ++ rest ≡ w ∷ ws)
     at (Some g) xs r = (w ∷ ws, refl)
     at None xs r = (r.0, ap (λ (l : List Write). w ∷ l) r.1)

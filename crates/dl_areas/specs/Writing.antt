@@ -31,14 +31,14 @@ full_in js [] = None
 full_in js (w ∷ ws) = option_or (refused js w) (full_in (grown_by w js) ws)
 
 -- these records, but none where something is full
-abbrev pub unless : Option Full → List Write → List Write
-unless (Some f) ws = []
-unless None ws = ws
+abbrev pub unless_full : Option Full → List Write → List Write
+unless_full (Some f) ws = []
+unless_full None ws = ws
 
 -- the records that fit: those before the first that does not
 unfoldable pub fitting : Journals → List Write → List Write
 fitting js [] = []
-fitting js (w ∷ ws) = unless (refused js w) (w ∷ fitting (grown_by w js) ws)
+fitting js (w ∷ ws) = unless_full (refused js w) (w ∷ fitting (grown_by w js) ws)
 
 -- A crash left the lists with a prefix of these records, and nothing more was told.
 pub record LeavesPrefix (lists : Lists) (ws : List Write) (o : Outside) (p : CrashState) : Type 0 where

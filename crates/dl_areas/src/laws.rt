@@ -1,6 +1,6 @@
 // Laws of calls that write records into five areas. The functions do nothing: they carry laws. A law on what stands outside speaks of
 // benches, each as it is seen.
-ghost use Rattle.std.specs.Prelude.{◌≡◌, ◌≢◌, ℕ, ◌+◌, ◌-◌, ◌<◌, ◌≤◌, ◌^◌, ◌↔◌, min, List, [], ◌∷◌, ◌++◌, length, Option, Some, None, Result, Err, OnOk, OnErr, IfErr};
+ghost use Rattle.std.specs.Prelude.{◌≡◌, ℕ, ◌+◌, ◌-◌, ◌<◌, ◌≤◌, ◌^◌, ◌↔◌, min, List, [], ◌∷◌, ◌++◌, length, Option, Some, None, Result, Err, OnOk, OnErr, IfErr};
 ghost use Rattle.std.specs.Option.{option_map};
 ghost use Rattle.std.specs.Result.{result_err};
 ghost use Rattle.dl_base.specs.Areas.{area_number};

@@ -1,4 +1,6 @@
+pub mod Answers
 pub mod Areas
+pub mod Blank
 pub mod Digits
 pub mod Faults
 pub mod Lending

@@ -5,6 +5,10 @@ use Rattle.std.specs.Prelude.{ℕ, suc, ◌^◌}
 abbrev pub most_columns : ℕ
 most_columns = 64
 
+-- bytes of a VARCHAR, by its column
+abbrev pub most_varchar_bytes : ℕ
+most_varchar_bytes = 4000
+
 -- tables
 abbrev pub most_tables : ℕ
 most_tables = 256

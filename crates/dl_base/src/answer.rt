@@ -2,7 +2,7 @@
 use crate::{FileRow, Grid, LinkNo, List, Name, Path, Phase, SqlFault, Text};
 
 /// A bound of the system that one more would pass.
-#[derive(Clone, Copy, Debug, PartialEq, Eq)]
+#[derive(Clone, Copy)]
 pub enum Limit {
     /// 64 columns of a table.
     Columns,
@@ -23,7 +23,7 @@ pub enum Limit {
 }
 
 /// Why a link forbids a command on its file.
-#[derive(Clone, Copy, Debug, PartialEq, Eq)]
+#[derive(Clone, Copy)]
 pub enum Why {
     Rename,
     Delete,

@@ -2,14 +2,14 @@
 use crate::{Copied, Memory, Name, Same};
 
 /// READ PERMISSION.
-#[derive(Clone, Copy, Debug, PartialEq, Eq)]
+#[derive(Clone, Copy, PartialEq, Eq)]
 pub enum ReadBy {
     Fs,
     Db,
 }
 
 /// WRITE PERMISSION.
-#[derive(Clone, Copy, Debug, PartialEq, Eq)]
+#[derive(Clone, Copy, PartialEq, Eq)]
 pub enum WriteBy {
     Fs,
     Blocked,
@@ -17,7 +17,7 @@ pub enum WriteBy {
 }
 
 /// ON UNLINK; NONE is `Nothing`.
-#[derive(Clone, Copy, Debug, PartialEq, Eq)]
+#[derive(Clone, Copy, PartialEq, Eq)]
 pub enum OnUnlink {
     Nothing,
     Restore,
@@ -25,7 +25,7 @@ pub enum OnUnlink {
 }
 
 /// The link control of a column, after DB2's datalink options. INTEGRITY is always ALL.
-#[derive(Clone, Copy, Debug, PartialEq, Eq)]
+#[derive(Clone, Copy, PartialEq, Eq)]
 pub struct Options {
     pub read: ReadBy,
     pub write: WriteBy,
@@ -35,7 +35,7 @@ pub struct Options {
 }
 
 /// The type of a column.
-#[derive(Clone, Copy, Debug, PartialEq, Eq)]
+#[derive(Clone, Copy, PartialEq, Eq)]
 pub enum Kind {
     Int,
     /// VARCHAR, and how many bytes it may have.
@@ -47,7 +47,7 @@ pub enum Kind {
 }
 
 /// NOT NULL or PRIMARY KEY.
-#[derive(Clone, Copy, Debug, PartialEq, Eq)]
+#[derive(Clone, Copy, PartialEq, Eq)]
 pub enum ColumnRule {
     Plain,
     NotNull,

@@ -35,7 +35,7 @@ pub enum FileChange {
 }
 
 /// Leave to read a file: up to which moment, in seconds, and the first 16 bytes of the HMAC that shows it.
-#[derive(Clone, Copy, Debug, PartialEq, Eq)]
+#[derive(Clone, Copy)]
 pub struct Token {
     pub expiry: u64,
     pub mac: [u8; 16],

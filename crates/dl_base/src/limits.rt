@@ -3,6 +3,9 @@
 /// Columns of a table.
 pub const MOST_COLUMNS: usize = 64;
 
+/// Bytes of a VARCHAR, by its column.
+pub const MOST_VARCHAR_BYTES: u32 = 4000;
+
 /// Tables.
 pub const MOST_TABLES: usize = 256;
 

@@ -1,4 +1,4 @@
-ghost use Rattle.std.specs.Prelude.{◌≡◌, ◌↔◌, IsNone, [], ◌∷◌, ◌++◌, length, take, slice_get, OnOk, OnErr, IfErr};
+ghost use Rattle.std.specs.Prelude.{◌≡◌, ◌↔◌, IsNone, [], ◌∷◌, ◌++◌, length, slice_get, OnOk, OnErr, IfErr};
 ghost use Rattle.std.specs.Borrow.{sem};
 ghost use Rattle.std.specs.List.{IsItemAtMut};
 ghost use Rattle.std.specs.Option.{option_copied, option_copied_mut, option_to_list};
@@ -9,7 +9,7 @@ use std::alloc::{AllocFailed, Global};
 use std::marker::Model;
 
 /// A list of items. Contracts see it as the list itself.
-#[derive(Debug, Drop)]
+#[derive(Drop)]
 pub struct List<T> {
     items: Vec<T>,
 }

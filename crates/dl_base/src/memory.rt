@@ -2,7 +2,7 @@ use std::alloc::{AllocError, AllocFailed};
 use thiserror::Error;
 
 /// There was no memory.
-#[derive(Clone, Copy, Debug, PartialEq, Eq, Error)]
+#[derive(Clone, Copy, Debug, Error)]
 #[error("no memory")]
 pub struct Memory;
 
@@ -26,6 +26,6 @@ impl<T: Drop> From<(T, Memory)> for Memory {
 }
 
 /// A call on the outside failed.
-#[derive(Clone, Copy, Debug, PartialEq, Eq, Error)]
+#[derive(Clone, Copy, Debug, Error)]
 #[error("a call on the outside failed")]
 pub struct Failed;

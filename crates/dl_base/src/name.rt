@@ -35,7 +35,7 @@ fn is_letter(byte: Option<&u8>) -> bool
 }
 
 /// A name, as `is_name` takes it. Contracts see it as its bytes.
-#[derive(Debug, Drop)]
+#[derive(Drop)]
 pub struct Name {
     items: Vec<u8>,
 }

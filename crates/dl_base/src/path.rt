@@ -35,7 +35,7 @@ fn is_slash(byte: Option<&u8>) -> bool
 }
 
 /// A path of a file, as `is_path` takes it. Contracts see it as its bytes.
-#[derive(Debug, Drop)]
+#[derive(Drop)]
 pub struct Path {
     items: Vec<u8>,
 }

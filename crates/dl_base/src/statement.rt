@@ -30,7 +30,7 @@ pub struct ColumnDef {
 }
 
 /// A column's type as it is written.
-#[derive(Clone, Copy, Debug, PartialEq, Eq)]
+#[derive(Clone, Copy)]
 pub enum KindDef {
     /// INTEGER or BIGINT.
     Integer,
@@ -45,7 +45,7 @@ pub enum KindDef {
 }
 
 /// INTEGRITY; NONE is `Nothing`.
-#[derive(Clone, Copy, Debug, PartialEq, Eq)]
+#[derive(Clone, Copy)]
 pub enum Integrity {
     All,
     Selective,
@@ -104,7 +104,7 @@ pub enum KeyBy {
 }
 
 /// An operator between two operands.
-#[derive(Clone, Copy, Debug, PartialEq, Eq)]
+#[derive(Clone, Copy)]
 pub enum Op {
     Or,
     And,
@@ -121,7 +121,7 @@ pub enum Op {
 }
 
 /// What an aggregate makes of its values.
-#[derive(Clone, Copy, Debug, PartialEq, Eq)]
+#[derive(Clone, Copy)]
 pub enum Fold {
     Sum,
     Min,
@@ -130,7 +130,7 @@ pub enum Fold {
 
 /// The part of a datalink that an accessor reads: DLCOMMENT, DLLINKTYPE, DLURLSCHEME, DLURLSERVER, DLURLPATHONLY,
 /// DLURLPATH and DLURLCOMPLETE.
-#[derive(Clone, Copy, Debug, PartialEq, Eq)]
+#[derive(Clone, Copy)]
 pub enum Part {
     Comment,
     LinkType,

@@ -2,7 +2,7 @@
 use crate::{FileCmd, LinkNo, Name, Stmt};
 
 /// How far a transaction is.
-#[derive(Clone, Copy, Debug, PartialEq, Eq)]
+#[derive(Clone, Copy)]
 pub enum Phase {
     Active,
     Prepared,
@@ -28,7 +28,7 @@ pub struct Settings {
 }
 
 /// What tables are restored to: a backup, or a commit, by its number from 1.
-#[derive(Clone, Copy, Debug, PartialEq, Eq)]
+#[derive(Clone, Copy)]
 pub enum Target {
     Backup(u64),
     Commit(u64),

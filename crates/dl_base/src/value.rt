@@ -2,7 +2,7 @@
 use crate::{Copied, List, Memory, Options, Path, Same, Text};
 
 /// The number of a link: the transaction that made it, and a count from 1 inside it.
-#[derive(Clone, Copy, Debug, PartialEq, Eq)]
+#[derive(Clone, Copy, PartialEq, Eq)]
 pub struct LinkNo {
     pub tx: u64,
     pub k: u32,

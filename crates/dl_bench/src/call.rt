@@ -1,5 +1,5 @@
 /// The kinds of calls of a bench, each of which is counted from 1.
-#[derive(Clone, Copy, Debug, PartialEq, Eq)]
+#[derive(Clone, Copy, PartialEq, Eq)]
 pub enum Call {
     Length,
     Read,

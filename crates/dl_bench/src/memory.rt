@@ -1,5 +1,5 @@
 // A bench in memory.
-ghost use Rattle.std.specs.Prelude.{◌≡◌, ◌+◌, ◌≤◌, ◌^◌, ◌++◌, List as Items, ℕ, [], length, is_err, IsErr, IsTrue, IfOk, OnOk, OnErr, IfErr, Some};
+ghost use Rattle.std.specs.Prelude.{◌≡◌, ◌+◌, ◌≤◌, ◌^◌, List as Items, ℕ, [], length, is_err, IsErr, IsTrue, IfOk, OnOk, OnErr, IfErr, Some};
 ghost use Rattle.std.specs.Option.{ForSome};
 ghost use Rattle.dl_base.specs.Outside.{ChangesOnly, Says, Torn, overwritten, portion, extended, FaultCounted};
 ghost use Rattle.dl_bench.specs.declared.event.Event.TheVariants.{Put, Write, Sync, Say};

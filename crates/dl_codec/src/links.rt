@@ -17,7 +17,7 @@ pub struct Taken {
 }
 
 /// How far a branch is, by the records of its transaction.
-#[derive(Clone, Copy, Debug, PartialEq, Eq)]
+#[derive(Clone, Copy)]
 pub enum BranchPhase {
     Prepared,
     Committed,

@@ -1,5 +1,5 @@
 // What the areas and the script ask of the system, one call a method.
-ghost use Rattle.std.specs.Prelude.{◌≡◌, ◌+◌, ◌≤◌, ◌<◌, ◌^◌, Bool, true, false, List, ℕ, [], length, take, Option, Some, Err, IfOk, OnOk, OnErr};
+ghost use Rattle.std.specs.Prelude.{◌≡◌, ◌+◌, ◌≤◌, ◌<◌, ◌^◌, true, false, List, ℕ, [], length, take, Option, Some, Err, IfOk, OnOk, OnErr};
 ghost use Rattle.dl_base.specs.declared.area.Area.{Area};
 ghost use Rattle.std.specs.Option.{ForSome};
 ghost use Rattle.dl_base.specs.Outside.{Outside, ChangesOnly, Says, Torn, overwritten, portion, extended, IsLawful};
@@ -9,7 +9,7 @@ ghost use Rattle.dl_host.specs.Hosts.{Hold, Stays, name_of, count_after, has_fai
 use dl_base::Area;
 
 /// Why a call of the system did nothing, or not all.
-#[derive(Clone, Copy, Debug, PartialEq, Eq)]
+#[derive(Clone, Copy)]
 pub enum Stop {
     /// A signal came first: nothing was done, and the call may be made again.
     Interrupted,

@@ -10,7 +10,7 @@ use std::alloc::Global;
 use std::marker::Model;
 
 /// The records of an area, open for more. Contracts see the area, the length, and the limit.
-#[derive(Debug, Drop)]
+#[derive(Drop)]
 pub struct Journal {
     area: Area,
     /// Where the closing gate is.
@@ -51,7 +51,7 @@ impl Journal {
         // Where there are records, nothing was written.
         ensures unwritten { IfOk result (λ r. 0 < length r.1 → IsUnwritten area (B.outside bench.old) (B.outside bench.new)) }
 
-        // An area of fewer than two bytes has the closed gate 0, whatever a crash leaves.
+        // An area of fewer than two bytes has the closed gate 0 where it is opened, whatever a crash leaves.
         ensures first_gate { OnOk result (GetsFirstGate ((B.outside bench.old).reads area) ((B.outside bench.new).image area)) }
 
         // However it ends, the area reads as the list that it was.

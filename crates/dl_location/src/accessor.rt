@@ -1,5 +1,5 @@
 // The texts of a datalink.
-ghost use Rattle.std.specs.Prelude.{◌≡◌, ◌==◌, ◌≤◌, length, IfOk, IsTrue};
+ghost use Rattle.std.specs.Prelude.{◌≡◌, ◌==◌, ◌≤◌, length, IfOk};
 ghost use Rattle.std.specs.List.{position_or_len};
 ghost use Rattle.std.specs.Str.{str_to_ascii_uppercase};
 ghost use Rattle.dl_location.specs.Accessors as meaning;
@@ -9,7 +9,7 @@ use std::alloc::Global;
 
 /// Which text of a datalink is asked for; in SQL the functions DLCOMMENT, DLLINKTYPE, DLURLSCHEME, DLURLSERVER,
 /// DLURLPATHONLY and DLURLCOMPLETE.
-#[derive(Clone, Copy, Debug, PartialEq, Eq)]
+#[derive(Clone, Copy, PartialEq, Eq)]
 pub enum Accessor {
     Comment,
     /// Always `URL`.

@@ -3,7 +3,7 @@ use Rattle.std.proofs.Common.{◌≡◌, ℕ, zero, suc, ◌+◌, ◌<◌, ◌�
 use Rattle.std.specs.List.{list_all, list_any, slice_get}
 use Rattle.std.proofs.lemmas.List.{take-append-le, drop-append-le}
 use Rattle.std.proofs.lemmas.List.Folds.{list_any-append, list_all-append}
-use Rattle.dl_pages.specs.Listing.{flatten, AreFilled, AreBelow, Begins}
+use Rattle.dl_pages.specs.Listing.{flatten, AreFilled, AreBelow, FirstTests}
 use Rattle.dl_pages.specs.Points.{IsPartitioned, IsPartitionPoint}
 use Rattle.dl_pages.proofs.Parts.{flatten_split, split_at, below_split, get_split}
 use Rattle.dl_pages.proofs.Places.{get_right, none_past, some_within}
@@ -75,7 +75,7 @@ module _ {T : Type 0} (test : T → Bool) where
   falls_rest (x ∷ xs) ys f = falls_rest xs ys f.1
 
   -- where the first of some fails, all do
-  all-fail : (ys : List T) → IsPartitioned test ys → Begins test false ys → list_any test ys ≡ false
+  all-fail : (ys : List T) → IsPartitioned test ys → FirstTests test false ys → list_any test ys ≡ false
   all-fail [] f e = refl
   all-fail (y ∷ ys) f e = rw (e, f.0 e) refl
 
@@ -91,7 +91,7 @@ module _ {T : Type 0} (test : T → Bool) where
       by true f = refl
       by false f = absurd (clash (or-false _ _ (or-false _ _ (sym (list_any-append test xs (y ∷ ys)) ∙ f refl)).1).0)
 
-  pub before_passes : (xs ys : List T) → IsPartitioned test (xs ++ ys) → 0 < length ys → Begins test true ys → list_all test xs ≡ true
+  pub before_passes : (xs ys : List T) → IsPartitioned test (xs ++ ys) → 0 < length ys → FirstTests test true ys → list_all test xs ≡ true
   before_passes xs [] f some e = absurd (omega arith)
   before_passes xs (y ∷ ys) f some e = front-passes xs y ys f e
 
@@ -126,32 +126,32 @@ module _ {T : Type 0} (test : T → Bool) where
       both a b ea eb = rw (ea, eb) refl
 
   -- the point of all is that of the part in the middle, where what is before passes and what is behind fails
-  pub point_within : (xs ys zs : List T) (k : ℕ) → IsPartitioned test (xs ++ (ys ++ zs)) → list_all test xs ≡ true → Begins test false zs → (IsPartitioned test ys → IsPartitionPoint test ys k) → IsPartitionPoint test (xs ++ (ys ++ zs)) (length xs + k)
+  pub point_within : (xs ys zs : List T) (k : ℕ) → IsPartitioned test (xs ++ (ys ++ zs)) → list_all test xs ≡ true → FirstTests test false zs → (IsPartitioned test ys → IsPartitionPoint test ys k) → IsPartitionPoint test (xs ++ (ys ++ zs)) (length xs + k)
   point_within xs ys zs k f all fails p =
       let g = falls_rest xs (ys ++ zs) f in
       point_past xs (ys ++ zs) k all (point_front ys zs k (all-fail zs (falls_rest ys zs g) fails) (p (falls_front ys zs g)))
 
-  begins-with : (v r : Bool) (xs rest : List T) → 0 < length xs → MatchOption (slice_get xs 0) (r ≡ true) (λ x. r ≡ test x) → r ≡ v → Begins test v (xs ++ rest)
+  begins-with : (v r : Bool) (xs rest : List T) → 0 < length xs → MatchOption (slice_get xs 0) (r ≡ true) (λ x. r ≡ test x) → r ≡ v → FirstTests test v (xs ++ rest)
   begins-with v r [] rest some is e = absurd (omega arith)
   begins-with v r (x ∷ xs) rest some is e = sym is ∙ e
 
-  begins-from : (v r : Bool) (n : ℕ) (ps : List (List T × ℕ)) (p : List T × ℕ) → p ≡ get_or ps n p → n < length ps → AreFilled ps → MatchOption (slice_get p.0 0) (r ≡ true) (λ x. r ≡ test x) → r ≡ v → Begins test v (flatten (drop n ps))
+  begins-from : (v r : Bool) (n : ℕ) (ps : List (List T × ℕ)) (p : List T × ℕ) → p ≡ get_or ps n p → n < length ps → AreFilled ps → MatchOption (slice_get p.0 0) (r ≡ true) (λ x. r ≡ test x) → r ≡ v → FirstTests test v (flatten (drop n ps))
   begins-from v r n [] p at within filled is e = absurd (omega arith)
   begins-from v r zero (q ∷ ps) p at within filled is e = begins-with v r q.0 (flatten ps) filled.0 (subst (λ (o : List T × ℕ). MatchOption (slice_get o.0 0) (r ≡ true) (λ x. r ≡ test x)) at is) e
   begins-from v r (suc n) (q ∷ ps) p at within filled is e = begins-from v r n ps p at (omega arith) filled.1 is e
 
   -- what a test says of the first item of a part, it says of those from there on
-  pub begins_at : (v r : Bool) (n m : ℕ) (ps : List (List T × ℕ)) (p : List T × ℕ) → p ≡ get_or ps n p → n < length ps → AreFilled ps → MatchOption (slice_get p.0 0) (r ≡ true) (λ x. r ≡ test x) → r ≡ v → n ≡ m → Begins test v (flatten (drop m ps))
+  pub begins_at : (v r : Bool) (n m : ℕ) (ps : List (List T × ℕ)) (p : List T × ℕ) → p ≡ get_or ps n p → n < length ps → AreFilled ps → MatchOption (slice_get p.0 0) (r ≡ true) (λ x. r ≡ test x) → r ≡ v → n ≡ m → FirstTests test v (flatten (drop m ps))
   begins_at v r n m ps p at within filled is e same = rw (sym same) (begins-from v r n ps p at within filled is e)
 
-  ahead : (n : ℕ) (ps behind : List (List T × ℕ)) (p : List T × ℕ) → drop n ps ≡ p ∷ behind → AreFilled ps → (0 < n → Begins test true (flatten (drop n ps))) → IsPartitioned test (flatten (take n ps) ++ (p.0 ++ flatten behind)) → list_all test (flatten (take n ps)) ≡ true
+  ahead : (n : ℕ) (ps behind : List (List T × ℕ)) (p : List T × ℕ) → drop n ps ≡ p ∷ behind → AreFilled ps → (0 < n → FirstTests test true (flatten (drop n ps))) → IsPartitioned test (flatten (take n ps) ++ (p.0 ++ flatten behind)) → list_all test (flatten (take n ps)) ≡ true
   ahead zero ps behind p is filled passing f = refl
-  ahead (suc n) ps behind p is filled passing f = before_passes (flatten (take (suc n) ps)) (p.0 ++ flatten behind) f (omega (arith, (filled_at (suc n) ps behind p is filled).0, length-append p.0 (flatten behind))) (subst (λ l. Begins test true (flatten l)) is (passing (omega arith)))
+  ahead (suc n) ps behind p is filled passing f = before_passes (flatten (take (suc n) ps)) (p.0 ++ flatten behind) f (omega (arith, (filled_at (suc n) ps behind p is filled).0, length-append p.0 (flatten behind))) (subst (λ l. FirstTests test true (flatten l)) is (passing (omega arith)))
 
   -- the point of parts is that of the part to go into
-  pub point_at : (n k i : ℕ) (ps behind : List (List T × ℕ)) (p : List T × ℕ) → drop n ps ≡ p ∷ behind → AreFilled ps → (0 < n → Begins test true (flatten (drop n ps))) → Begins test false (flatten (drop (n + 1) ps)) → (IsPartitioned test p.0 → IsPartitionPoint test p.0 k) → length (flatten (take n ps)) + k ≡ i → IsPartitioned test (flatten ps) → IsPartitionPoint test (flatten ps) i
+  pub point_at : (n k i : ℕ) (ps behind : List (List T × ℕ)) (p : List T × ℕ) → drop n ps ≡ p ∷ behind → AreFilled ps → (0 < n → FirstTests test true (flatten (drop n ps))) → FirstTests test false (flatten (drop (n + 1) ps)) → (IsPartitioned test p.0 → IsPartitionPoint test p.0 k) → length (flatten (take n ps)) + k ≡ i → IsPartitioned test (flatten ps) → IsPartitionPoint test (flatten ps) i
   point_at n k i ps behind p is filled passing failing own at f =
-      subst (λ l. IsPartitionPoint test l i) (sym (in_three n ps behind p is)) (subst (IsPartitionPoint test (flatten (take n ps) ++ (p.0 ++ flatten behind))) at (point_within (flatten (take n ps)) p.0 (flatten behind) k parted (ahead n ps behind p is filled passing parted) (subst (λ l. Begins test false (flatten l)) (drop_next n ps behind p is) failing) own))
+      subst (λ l. IsPartitionPoint test l i) (sym (in_three n ps behind p is)) (subst (IsPartitionPoint test (flatten (take n ps) ++ (p.0 ++ flatten behind))) at (point_within (flatten (take n ps)) p.0 (flatten behind) k parted (ahead n ps behind p is filled passing parted) (subst (λ l. FirstTests test false (flatten l)) (drop_next n ps behind p is) failing) own))
     where
       parted : IsPartitioned test (flatten (take n ps) ++ (p.0 ++ flatten behind))
       parted = subst (IsPartitioned test) (in_three n ps behind p is) f

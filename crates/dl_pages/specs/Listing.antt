@@ -30,9 +30,9 @@ AreBelow h [] = Unit {0}
 AreBelow h (p ∷ ps) = (p.1 < h) × AreBelow h ps
 
 -- what a test says of the first of these items
-abbrev pub Begins : {T : Type 0} → (T → Bool) → Bool → List T → Type 0
-Begins test v [] = Unit {0}
-Begins test v (x ∷ xs) = test x ≡ v
+abbrev pub FirstTests : {T : Type 0} → (T → Bool) → Bool → List T → Type 0
+FirstTests test v [] = Unit {0}
+FirstTests test v (x ∷ xs) = test x ≡ v
 
 -- the item at a place among parts is in the part at this place, where it stands at the other
 abbrev pub IsSeat : {T : Type 0} → List (List T × ℕ) → ℕ → ℕ → ℕ → Type 0

@@ -1,9 +1,9 @@
 // The tree under a list: parts, each a leaf or a page of parts. No part is changed once it stands in a page, unless no other list
 // shares the page.
-ghost use Rattle.std.specs.Prelude.{◌≡◌, ℕ, Ok, true, false, [], ◌∷◌, ◌++◌, ◌+◌, ◌<◌, ◌≤◌, length, drop, slice_get, slice_set, remove, IfOk, OnOk, IfSome, IfNone, MatchOption};
+ghost use Rattle.std.specs.Prelude.{◌≡◌, ◌⊎◌, ℕ, Ok, true, false, [], ◌∷◌, ◌++◌, ◌+◌, ◌<◌, ◌≤◌, length, drop, slice_get, slice_set, remove, is_err, IfOk, OnOk, OnErr, IfSome, IfNone, MatchOption};
 ghost use Rattle.std.specs.List.{insert};
 ghost use Rattle.std.specs.Option.{option_copied};
-ghost use Rattle.dl_pages.specs.Listing.{flatten, AreFilled, AreBelow, Begins, IsSeat};
+ghost use Rattle.dl_pages.specs.Listing.{flatten, AreFilled, AreBelow, FirstTests, IsSeat};
 ghost use Rattle.dl_pages.specs.Points.{IsPartitioned, IsPartitionPoint};
 
 use crate::leaves::{
@@ -112,7 +112,8 @@ impl<T: Ranked> Made<T> {
 
 // A part that has become one, where it was made.
 fn alone<T: Drop + Ranked>(part: Result<Part<T>, Memory>) -> Result<Made<T>, Memory>
-    ensures { IfOk result (λ made. (part ≡ Ok made.first) × (made.second.0 ≡ [])) }
+    ensures parts { IfOk result (λ made. (part ≡ Ok made.first) × (made.second.0 ≡ [])) }
+    ensures memory { OnErr result (is_err part ≡ true) }
 {
     Ok(Made::one(part?))
 }
@@ -122,7 +123,8 @@ fn both<T: Drop + Ranked>(
     first: Result<Part<T>, Memory>,
     second: Result<Part<T>, Memory>,
 ) -> Result<Made<T>, Memory>
-    ensures { IfOk result (λ made. (first ≡ Ok made.first) × (second ≡ Ok made.second)) }
+    ensures parts { IfOk result (λ made. (first ≡ Ok made.first) × (second ≡ Ok made.second)) }
+    ensures memory { OnErr result ((is_err first ≡ true) ⊎ (is_err second ≡ true)) }
 {
     match first {
         Ok(first) => match second {
@@ -207,8 +209,8 @@ fn entry<T: Ranked, F: Predicate<T>>(parts: &[Part<T>], predicate: &F, pivot: u6
     requires filled { AreFilled parts.now }
     requires pivot { pivot ≡ F.pivot predicate.now }
     ensures within { result < length parts.now }
-    ensures passing { 0 < result → Begins (F.test predicate.now) true (flatten (drop result parts.now)) }
-    ensures failing { Begins (F.test predicate.now) false (flatten (drop (result + 1) parts.now)) }
+    ensures passing { 0 < result → FirstTests (F.test predicate.now) true (flatten (drop result parts.now)) }
+    ensures failing { FirstTests (F.test predicate.now) false (flatten (drop (result + 1) parts.now)) }
 {
     for next in 1..parts.len() {
         if !parts[next].begins_passing(predicate, pivot) {

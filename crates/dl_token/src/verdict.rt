@@ -1,5 +1,5 @@
 /// What a token is worth for reading a file at a moment.
-#[derive(Clone, Copy, Debug, PartialEq, Eq)]
+#[derive(Clone, Copy)]
 pub enum Verdict {
     Good,
     /// It was not made for this path, link and expiry.

@@ -1,12 +1,12 @@
 -- Entries in any order, and the copies that they are.
-use Rattle.std.proofs.Common.{◌≡◌, ◌&&◌, ℕ, Bool, true, false, cond, List, [], ◌∷◌, ◌++◌, map, nat_eq, get_or, bytes_eq, is_none, is_some, not, refl, sym, ap, subst, ◌∙◌, Option, Some, None}
+use Rattle.std.proofs.Common.{◌≡◌, ◌&&◌, ℕ, Bool, true, false, cond, List, [], ◌∷◌, ◌++◌, map, nat_eq, get_or, bytes_eq, is_none, is_some, not, refl, sym, ap, subst, ◌∙◌, Option, Some, None, IfSome}
 use Rattle.std.proofs.lemmas.List.{map-append}
 use Rattle.std.proofs.lemmas.Slice.Eq.{bytes_eq-Decides}
-use Rattle.std.specs.Cmp.Lexicographic.{bytes_decides, nat_list_cmp_total, pointwise, slice_cmp, texts_ties}
+use Rattle.std.specs.Cmp.Lexicographic.{bytes_decides, nat_list_cmp_total, nat_list_eq_equiv, pointwise, slice_cmp, texts_ties}
 use Rattle.std.specs.FinMap as maps
 use Rattle.std.specs.Map.{lookup}
 use Rattle.std.specs.Option.{option_map}
-use Rattle.std.specs.Ordering.{nat_cmp}
+use Rattle.std.specs.Ordering.{eq_by_cmp, nat_cmp}
 use Rattle.dl_codec.specs.declared.archive.ArchiveRecord.TheVariants as archived
 use Rattle.dl_codec.specs.declared.archive.FileCopy.{FileCopy}
 use Rattle.fm_archive.specs.Copies.{AreFiled, can_take, code, copies_in, entries_of, file_copy, key_of, link_of, same}
@@ -18,6 +18,10 @@ use Rattle.sha2.specs.Sha256.{sha256}
 and-true : (b : Bool) → (b && true) ≡ b
 and-true true = refl
 and-true false = refl
+
+and-false : (b : Bool) → (b && false) ≡ false
+and-false true = refl
+and-false false = refl
 
 pub coded-same : (a b : Key) → pointwise nat_eq (code a) (code b) ≡ same a b
 coded-same a b = ap (λ x. nat_eq a.tx b.tx && x) (and-true (nat_eq a.k b.k))
@@ -44,40 +48,44 @@ found q (e ∷ es) =
 pub get-copies_in : (es : List (Key × FileCopy)) (q : Key) → maps.get (copies_in es) (code q) ≡ option_map copy_of (lookup (same q) es)
 get-copies_in es q = maps.get-from_entries nat_list_cmp_total (entries_of es) (code q) ∙ found q es
 
-filed-found : (es : List (Key × FileCopy)) (q : Key) → AreFiled es → lookup (same q) es ≡ option_map (λ v. file_copy (link_of q) (copy_of v)) (lookup (same q) es)
-filed-found [] q filed = refl
-filed-found (e ∷ es) q filed = by (same q e.0) refl (filed-found es q filed.1)
-  where
-    by : (b : Bool) → same q e.0 ≡ b → lookup (same q) es ≡ option_map (λ v. file_copy (link_of q) (copy_of v)) (lookup (same q) es)
-        → cond b (Some e.1) (lookup (same q) es) ≡ option_map (λ v. file_copy (link_of q) (copy_of v)) (cond b (Some e.1) (lookup (same q) es))
-    by true is rest = ap (λ v. Some v) (filed.0 ∙ ap (λ (k : Key). file_copy (link_of k) (copy_of e.1)) (sym (same-key q e.0 is)))
-    by false is rest = rest
+-- a list of numbers that is the code of no key is found in no copies
+missed : (q : List ℕ) → ((x : Key) → pointwise nat_eq q (code x) ≡ false) → (es : List (Key × FileCopy)) → maps.find (slice_cmp nat_cmp) q (entries_of es) ≡ None
+missed q none [] = refl
+missed q none (e ∷ es) = λ i. cond ((sym (texts_ties q (code e.0)) ∙ none e.0) i) (Some (copy_of e.1)) (missed q none es i)
 
+get-none : (q : List ℕ) → ((x : Key) → pointwise nat_eq q (code x) ≡ false) → (es : List (Key × FileCopy)) → maps.get (copies_in es) q ≡ None
+get-none q none es = maps.get-from_entries nat_list_cmp_total (entries_of es) q ∙ missed q none es
+
+-- what holds of the codes of keys and of all lists that are none
+by_code : (P : List ℕ → Type 0) → ((x : Key) → P (code x)) → ((q : List ℕ) → ((x : Key) → pointwise nat_eq q (code x) ≡ false) → P q) → (q : List ℕ) → P q
+by_code P coded other [] = other [] (λ x. refl)
+by_code P coded other (a ∷ []) = other (a ∷ []) (λ x. and-false (nat_eq a x.tx))
+by_code P coded other (a ∷ b ∷ []) = coded (record { tx = a; k = b })
+by_code P coded other (a ∷ b ∷ c ∷ q) = other (a ∷ b ∷ c ∷ q) (λ x. ap (λ y. nat_eq a x.tx && y) (and-false (nat_eq b x.k)) ∙ and-false (nat_eq a x.tx))
+
+-- the same entries in another order
+module _ (old new : List (Key × FileCopy)) (is : (q : Key) → lookup (same q) new ≡ lookup (same q) old) where
+  pub copies_reordered : copies_in new ≡ copies_in old
+  copies_reordered = maps.same_map nat_list_cmp_total only_same _ _ (by_code (λ q. maps.get (copies_in new) q ≡ maps.get (copies_in old) q)
+      (λ q. get-copies_in new q ∙ ap (λ o. option_map copy_of o) (is q) ∙ sym (get-copies_in old q))
+      (λ q none. get-none q none new ∙ sym (get-none q none old)))
+
+  pub filed_reordered : AreFiled old → AreFiled new
+  filed_reordered filed q = subst (λ (o : Option FileCopy). IfSome o (λ c. c ≡ file_copy (link_of q) (copy_of c))) (sym (is q)) (filed q)
+
+-- what is found among entries that are filed
 pub got : (es : List (Key × FileCopy)) (q : Key) → AreFiled es → lookup (same q) es ≡ option_map (file_copy (link_of q)) (maps.get (copies_in es) (code q))
-got es q filed = filed-found es q filed ∙ twice (lookup (same q) es) ∙ ap (λ o. option_map (file_copy (link_of q)) o) (sym (get-copies_in es q))
+got es q filed = by (lookup (same q) es) (filed q) ∙ ap (λ o. option_map (file_copy (link_of q)) o) (sym (get-copies_in es q))
   where
-    twice : (o : Option FileCopy) → option_map (λ v. file_copy (link_of q) (copy_of v)) o ≡ option_map (file_copy (link_of q)) (option_map copy_of o)
-    twice None = refl
-    twice (Some v) = refl
-
--- a link with no copy has no entry
-pub none-there : (es : List (Key × FileCopy)) (q : Key) → maps.get (copies_in es) (code q) ≡ None → lookup (same q) es ≡ None
-none-there es q none = by (lookup (same q) es) (sym (get-copies_in es q) ∙ none)
-  where
-    by : (o : Option FileCopy) → option_map copy_of o ≡ None → o ≡ None
-    by None e = refl
-    by (Some v) e = cc e
+    by : (o : Option FileCopy) → IfSome o (λ c. c ≡ file_copy (link_of q) (copy_of c)) → o ≡ option_map (file_copy (link_of q)) (option_map copy_of o)
+    by None is = refl
+    by (Some v) is = ap (λ c. Some c) is
 
 -- one more entry, of a new key
-
 pub copies_push : (es : List (Key × FileCopy)) (q : Key) (v : FileCopy) → lookup (same q) es ≡ None → copies_in (es ++ (q, v) ∷ []) ≡ maps.insert (copies_in es) (code q) (copy_of v)
 copies_push es q v none =
     ap (λ (xs : List (List ℕ × Copy)). maps.from_entries {R = slice_cmp nat_cmp} xs) (map-append (λ e. (code e.0, copy_of e.1)) es ((q, v) ∷ []))
     ∙ maps.from_entries_push nat_list_cmp_total only_same (entries_of es) (code q) (copy_of v) (found q es ∙ ap (λ o. option_map copy_of o) none)
-
-pub filed_push : (es : List (Key × FileCopy)) (q : Key) (v : FileCopy) → AreFiled es → v ≡ file_copy (link_of q) (copy_of v) → AreFiled (es ++ (q, v) ∷ [])
-filed_push [] q v filed is = (is, tt)
-filed_push (e ∷ es) q v filed is = (filed.0, filed_push es q v filed.1 is)
 
 -- what a look-up says of a map
 pub some-there : (es : List (Key × FileCopy)) (q : Key) → is_some (lookup (same q) es) ≡ is_some (maps.get (copies_in es) (code q))
@@ -105,16 +113,40 @@ can_take-parts copies c e = by (maps.get copies (link_key c.link)) e
     by None e = (refl, (bytes_eq-Decides c.digest (sha256 c.bytes)).0 e)
     by (Some earlier) e = absurd cc
 
--- A COPY OF A LINK that has none is put in
-module _ (es : List (Key × FileCopy)) (q : Key) (v : FileCopy) (copies : Copies) (at : copies_in es ≡ copies) (key : q ≡ key_of v.link) (new : maps.get copies (link_key v.link) ≡ None) where
-  pub put_new : lookup (same q) es ≡ None
-  put_new = none-there es q (ap (λ (k : Key). maps.get (copies_in es) (code k)) key ∙ ap (λ (m : Copies). maps.get m (link_key v.link)) at ∙ new)
+-- A COPY under the key of its link
+module _ (old new : List (Key × FileCopy)) (k : Key) (v : FileCopy) (key : k ≡ key_of v.link) (updates : (q : Key) → lookup (same q) new ≡ cond (same k q) (Some v) (lookup (same q) old)) where
+  copies_put : copies_in new ≡ maps.insert (copies_in old) (code k) (copy_of v)
+  copies_put = maps.same_map nat_list_cmp_total only_same _ _ (by_code (λ q. maps.get (copies_in new) q ≡ maps.get (maps.insert (copies_in old) (code k) (copy_of v)) q) coded other)
+    where
+      turned : (q : Key) → same k q ≡ eq_by_cmp (slice_cmp nat_cmp) (code q) (code k)
+      turned q = sym (coded-same k q) ∙ nat_list_eq_equiv.symm (code k) (code q) ∙ texts_ties (code q) (code k)
 
-  pub put_copies : (later : List (Key × FileCopy)) → later ≡ es ++ (q, v) ∷ [] → copies_in later ≡ maps.insert copies (link_key v.link) (copy_of v)
-  put_copies later is = ap copies_in is ∙ copies_push es q v put_new ∙ (λ i. maps.insert (at i) (code (key i)) (copy_of v))
+      by : (b : Bool) (o : Option FileCopy) → option_map copy_of (cond b (Some v) o) ≡ cond b (Some (copy_of v)) (option_map copy_of o)
+      by true o = refl
+      by false o = refl
 
-  pub put_filed : (later : List (Key × FileCopy)) → later ≡ es ++ (q, v) ∷ [] → AreFiled es → v.digest ≡ sha256 v.bytes → AreFiled later
-  put_filed later is were digest = subst AreFiled (sym is) (filed_push es q v were (filed q v key digest))
+      coded : (q : Key) → maps.get (copies_in new) (code q) ≡ maps.get (maps.insert (copies_in old) (code k) (copy_of v)) (code q)
+      coded q =
+          get-copies_in new q ∙ ap (λ o. option_map copy_of o) (updates q) ∙ by (same k q) (lookup (same q) old)
+          ∙ (λ i. cond (turned q i) (Some (copy_of v)) (sym (get-copies_in old q) i))
+          ∙ sym (maps.get-insert nat_list_cmp_total (copies_in old) (code k) (copy_of v) (code q))
+
+      other : (q : List ℕ) → ((x : Key) → pointwise nat_eq q (code x) ≡ false) → maps.get (copies_in new) q ≡ maps.get (maps.insert (copies_in old) (code k) (copy_of v)) q
+      other q none =
+          get-none q none new
+          ∙ sym (maps.get-insert nat_list_cmp_total (copies_in old) (code k) (copy_of v) q
+          ∙ (λ i. cond ((sym (texts_ties q (code k)) ∙ none k) i) (Some (copy_of v)) (get-none q none old i)))
+
+  pub put_copies : (copies : Copies) → copies_in old ≡ copies → copies_in new ≡ maps.insert copies (link_key v.link) (copy_of v)
+  put_copies copies at = copies_put ∙ (λ i. maps.insert (at i) (code (key i)) (copy_of v))
+
+  pub put_filed : AreFiled old → v.digest ≡ sha256 v.bytes → AreFiled new
+  put_filed were digest q = subst (λ (o : Option FileCopy). IfSome o (λ c. c ≡ file_copy (link_of q) (copy_of c))) (sym (updates q)) (by (same k q) refl (were q))
+    where
+      by : (b : Bool) → same k q ≡ b → IfSome (lookup (same q) old) (λ c. c ≡ file_copy (link_of q) (copy_of c))
+          → IfSome (cond b (Some v) (lookup (same q) old)) (λ c. c ≡ file_copy (link_of q) (copy_of c))
+      by true is rest = filed k v key digest ∙ ap (λ (x : Key). file_copy (link_of x) (copy_of v)) (same-key k q is)
+      by false is rest = rest
 
 -- the fold takes a copy of a link that has none, with its digest
 pub step_takes : (copies : Copies) (c : FileCopy) → maps.get copies (link_key c.link) ≡ None → c.digest ≡ sha256 c.bytes → copies_step copies (archived.Copy c) ≡ Some (maps.insert copies (link_key c.link) (copy_of c))

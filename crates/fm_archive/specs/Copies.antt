@@ -1,8 +1,9 @@
 -- Archived copies in memory: one a link, in any order, and what they are seen as.
-use Rattle.std.specs.Prelude.{◌≡◌, ◌&&◌, ℕ, Bool, bytes_eq, List, [], ◌∷◌, filter, is_none, map, nat_eq, refl}
+use Rattle.std.specs.Prelude.{◌≡◌, ◌&&◌, ℕ, Bool, bytes_eq, List, IfSome, filter, is_none, map, nat_eq, refl}
 use Rattle.std.specs.Coded.{Coded, code_by, coded×, coded_list, coded_ℕ}
 use Rattle.std.specs.Cmp.Lexicographic.{slice_cmp}
 use Rattle.std.specs.FinMap as maps
+use Rattle.std.specs.Map.{lookup}
 use Rattle.std.specs.Ordering.{nat_cmp}
 use Rattle.dl_base.specs.declared.value.LinkNo.{LinkNo}
 use Rattle.dl_base.specs.declared.value.LinkRow.{LinkRow}
@@ -52,10 +53,9 @@ entries_of es = map (λ e. (code e.0, copy_of e.1)) es
 abbrev pub copies_in : List (Key × FileCopy) → Copies
 copies_in es = maps.from_entries {R = slice_cmp nat_cmp} (entries_of es)
 
--- each has the link that is its key, and the digest of its bytes
+-- what is found under a key has the link that is this key, and the digest of its bytes
 abbrev pub AreFiled : List (Key × FileCopy) → Type 0
-AreFiled [] = Unit {0}
-AreFiled (e ∷ es) = (e.1 ≡ file_copy (link_of e.0) (copy_of e.1)) × AreFiled es
+AreFiled es = (key : Key) → IfSome (lookup (same key) es) (λ c. c ≡ file_copy (link_of key) (copy_of c))
 
 -- the fold takes a copy: its link has none, and its digest is that of its bytes
 abbrev pub can_take : Copies → FileCopy → Bool

@@ -1,23 +1,20 @@
 // The copies in memory, by the numbers of their links.
-ghost use Rattle.std.specs.Prelude.{◌≡◌, ◌<◌, ◌≤◌, ◌+◌, ◌++◌, ◌∷◌, [], None, IsOk, IfOk, OnOk, OnErr, is_some, map};
+ghost use Rattle.std.specs.Prelude.{◌≡◌, ◌<◌, ◌≤◌, ◌+◌, None, IsOk, IfOk, OnOk, OnErr, is_some, map};
 ghost use Rattle.std.specs.FinMap as maps;
-ghost use Rattle.std.specs.Map.{lookup};
 ghost use Rattle.std.specs.Option.{option_copied, option_map};
-ghost use Rattle.indexmap.specs.IndexMap.{spare as room};
-ghost use Rattle.fm_archive.specs.Copies.{code, copies_in, file_copy, is_pending, same};
+ghost use Rattle.fm_archive.specs.Copies.{code, copies_in, file_copy, is_pending};
 ghost use Rattle.meaning_areas.specs.Copies.{copy_of};
 ghost use Rattle.meaning_settling.specs.Settling.{link_key};
 ghost use Rattle.sha2.specs.Sha256.{sha256};
 
 use dl_base::{LinkNo, LinkRow, List, Memory};
 use dl_codec::FileCopy;
-use indexmap::IndexMap;
 use std::alloc::Global;
-use std::collections::BTreeMap;
+use std::collections::{BTreeMap, HashMap};
 use std::marker::Model;
 
 /// The number of a link, as a key: by transaction, and then by count.
-#[derive(Clone, Copy, Debug, PartialEq, Eq, PartialOrd, Ord, Hash)]
+#[derive(Clone, Copy, PartialEq, Eq, PartialOrd, Ord, Hash)]
 pub struct Key {
     pub tx: u64,
     pub k: u32,
@@ -26,11 +23,11 @@ pub struct Key {
 /// Copies by the numbers of their links. Contracts see the copies in the order of these, and for how many more there is room.
 #[derive(Drop)]
 pub struct CopyTable {
-    entries: IndexMap<Key, FileCopy>,
+    entries: HashMap<Key, FileCopy>,
 }
 
 impl Model for CopyTable {
-    ghost use Rattle.indexmap.specs.IndexMap.{spare as room};
+    ghost use Rattle.std.specs.HashMap.{spare as room};
     ghost use Rattle.fm_archive.specs.Copies.{AreFiled, Shelf, copies_in, shelf_code};
 
     ghost Value = { Shelf };
@@ -48,7 +45,7 @@ impl CopyTable {
         ensures { result.copies ≡ maps.empty }
     {
         CopyTable {
-            entries: IndexMap::new(alloc),
+            entries: HashMap::new(alloc),
         }
     }
 
@@ -105,21 +102,9 @@ impl CopyTable {
         ensures spare { self.old.spare ≤ self.new.spare + 1 }
     {
         let key = key_of(copy.link);
-        insert(&mut self.entries, key, copy)?;
+        self.entries.insert(key, copy)?;
         Ok(())
     }
-}
-
-// Puts in an entry of a new key. Where there is room it takes no memory.
-fn insert(entries: &mut IndexMap<Key, FileCopy>, key: Key, copy: FileCopy) -> Result<(), Memory>
-    requires { lookup (same key) entries.old.entries ≡ None }
-    ensures ok { OnOk result (entries.new.entries ≡ entries.old.entries ++ (key, copy) ∷ []) }
-    ensures err { OnErr result (entries.new.entries ≡ entries.old.entries) }
-    ensures room { 0 < room entries.old → IsOk result }
-    ensures spare { room entries.old ≤ room entries.new + 1 }
-{
-    entries.insert(key, copy)?;
-    Ok(())
 }
 
 fn key_of(link: LinkNo) -> Key
@@ -141,7 +126,7 @@ fn link_of(key: Key) -> LinkNo
 }
 
 // The keys of all copies, in order.
-fn sorted(alloc: Global, entries: &IndexMap<Key, FileCopy>) -> Result<BTreeMap<Key, ()>, Memory>
+fn sorted(alloc: Global, entries: &HashMap<Key, FileCopy>) -> Result<BTreeMap<Key, ()>, Memory>
     ensures { IfOk result (λ made. map (λ e. code e.0) made.entries ≡ maps.keys (copies_in entries.now.entries)) }
 {
     let mut made = BTreeMap::new(alloc);

@@ -14,7 +14,7 @@ use Rattle.dl_codec.specs.declared.links.BranchPhase.{BranchPhase}
 use Rattle.meaning_areas.specs.Branches.{Branch, branch}
 use Rattle.meaning_areas.specs.Commits.{has_number}
 use Rattle.fm_branch.proofs.Maps.{entries-of, get-of, of-renewed, of-same, removed-put, same-tied, tied-number}
-use Rattle.fm_branch.specs.Table.{AreNamed, Numbered, Table, are_once, doubtful, in_doubt, with_last, with_phase}
+use Rattle.fm_branch.specs.Table.{HaveBranches, Numbered, Table, are_once, doubtful, in_doubt, with_last, with_phase}
 
 -- one branch more
 
@@ -33,7 +33,7 @@ number-more q tx (t ∷ ts) = ap (λ b. cond (nat_eq t q) true b) (number-more q
     by true false d = refl
     by false b d = refl
 
-pub named-more : (txs : List ℕ) (table : Table) (tx : ℕ) (b : Branch) → AreNamed txs table → AreNamed (txs ++ tx ∷ []) (maps.insert table tx b)
+pub named-more : (txs : List ℕ) (table : Table) (tx : ℕ) (b : Branch) → HaveBranches txs table → HaveBranches (txs ++ tx ∷ []) (maps.insert table tx b)
 named-more txs table tx b named q =
     number-more q tx txs ∙ ap (λ d. eq_by_cmp nat_cmp q tx || d) (named q) ∙ by (eq_by_cmp nat_cmp q tx) ∙ sym (ap is_some (maps.get-insert nat_cmp_total table tx b q))
   where
@@ -41,7 +41,7 @@ named-more txs table tx b named q =
     by true = refl
     by false = refl
 
-pub new-number : (txs : List ℕ) (table : Table) (tx : ℕ) → AreNamed txs table → maps.get table tx ≡ None → has_number tx txs ≡ false
+pub new-number : (txs : List ℕ) (table : Table) (tx : ℕ) → HaveBranches txs table → maps.get table tx ≡ None → has_number tx txs ≡ false
 new-number txs table tx named none = named tx ∙ ap (λ (o : Option Branch). is_some o) none
 
 pub once-more : (txs : List ℕ) (tx : ℕ) → are_once txs ≡ true → has_number tx txs ≡ false → are_once (txs ++ tx ∷ []) ≡ true
@@ -56,7 +56,7 @@ once-more (t ∷ ts) tx all new =
     by true b e = absurd cc
     by false b e = (refl, e)
 
-pub none-named : AreNamed [] maps.empty
+pub none-named : HaveBranches [] maps.empty
 none-named q = sym (ap is_some (maps.get-empty nat_cmp q))
 
 -- the last branch taken out again
@@ -79,7 +79,7 @@ module _ (txs : List ℕ) (tx : ℕ) (once : are_once (txs ++ tx ∷ []) ≡ tru
   pub once-less : are_once txs ≡ true
   once-less = (once-before txs tx once).0
 
-  pub named-less : (table : Table) → AreNamed (txs ++ tx ∷ []) table → AreNamed txs (maps.remove table tx)
+  pub named-less : (table : Table) → HaveBranches (txs ++ tx ∷ []) table → HaveBranches txs (maps.remove table tx)
   named-less table named q = by (eq_by_cmp nat_cmp q tx) refl ∙ sym (ap (λ (o : Option Branch). is_some o) (maps.get-remove nat_cmp_total table tx q))
     where
       by : (t : Bool) → eq_by_cmp nat_cmp q tx ≡ t → has_number q txs ≡ is_some (cond t None (maps.get table q))
@@ -129,7 +129,7 @@ module _ (table : Table) (tx : ℕ) (phase : BranchPhase) where
       by None e = refl
       by (Some b) e = ap is_some (maps.get-insert nat_cmp_total table tx (branch b.moved phase) q) ∙ at b (eq_by_cmp nat_cmp q tx) e refl
 
-  pub named-phase : (txs : List ℕ) → AreNamed txs table → AreNamed txs (with_phase table tx phase (maps.get table tx))
+  pub named-phase : (txs : List ℕ) → HaveBranches txs table → HaveBranches txs (with_phase table tx phase (maps.get table tx))
   named-phase txs named q = named q ∙ sym (some-phase q)
 
 -- those in doubt, of entries in order

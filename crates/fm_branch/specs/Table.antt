@@ -13,8 +13,8 @@ abbrev pub Table : Type 0
 Table = maps.FinMap nat_cmp Branch
 
 -- exactly these transactions have a branch
-abbrev pub AreNamed : List ℕ → Table → Type 0
-AreNamed prepared table = (tx : ℕ) → has_number tx prepared ≡ is_some (maps.get table tx)
+abbrev pub HaveBranches : List ℕ → Table → Type 0
+HaveBranches prepared table = (tx : ℕ) → has_number tx prepared ≡ is_some (maps.get table tx)
 
 -- no transaction is there twice
 abbrev pub are_once : List ℕ → Bool

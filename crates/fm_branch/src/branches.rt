@@ -16,7 +16,7 @@ ghost use Rattle.dl_journal.specs.Open.{IsOpen, IsUnwritten};
 ghost use Rattle.fm_branch.specs.Held.{row_on};
 ghost use Rattle.fm_branch.specs.Linked.{IsTaken, extent, links_in, opening_write, prepared_in, reopened, write_for};
 ghost use Rattle.fm_branch.specs.Shown.{shown};
-ghost use Rattle.fm_branch.specs.Table.{AreNamed, in_doubt};
+ghost use Rattle.fm_branch.specs.Table.{HaveBranches, in_doubt};
 ghost use Rattle.meaning_areas.specs.Areas.{branches_of};
 ghost use Rattle.meaning_areas.specs.Branches.{links_step};
 ghost use Rattle.meaning_settling.specs.Settling.{link_key};
@@ -221,7 +221,7 @@ impl Branches {
     /// changes nothing.
     pub fn branches(&self) -> Result<List<u64>, Memory>
         ensures prepared { IfOk result (λ txs. txs ≡ self.now.prepared) }
-        ensures named { AreNamed self.now.prepared self.now.links.table }
+        ensures named { HaveBranches self.now.prepared self.now.links.table }
     {
         self.history.prepared(self.alloc)
     }

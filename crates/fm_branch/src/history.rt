@@ -9,7 +9,7 @@ ghost use Rattle.std.specs.Ordering.{nat_cmp};
 ghost use Rattle.dl_codec.specs.declared.links.BranchPhase.TheVariants as phases;
 ghost use Rattle.fm_branch.specs.Held.{row_on};
 ghost use Rattle.fm_branch.specs.Linked.{Recorded, with_prepared};
-ghost use Rattle.fm_branch.specs.Table.{AreNamed, in_doubt};
+ghost use Rattle.fm_branch.specs.Table.{HaveBranches, in_doubt};
 ghost use Rattle.meaning_areas.specs.Branches.{Branch, branch, done_on, moved_by, moves_on, no_branches, opens_on, prepares_on, with_branch};
 ghost use Rattle.meaning_settling.specs.Settling.{link_key};
 
@@ -185,7 +185,7 @@ impl History {
     /// The transaction of each Prepared, in the order of the records.
     pub fn prepared(&self, alloc: Global) -> Result<List<u64>, Memory>
         ensures prepared { IfOk result (λ txs. txs ≡ self.now.prepared) }
-        ensures named { AreNamed self.now.prepared self.now.links.table }
+        ensures named { HaveBranches self.now.prepared self.now.links.table }
     {
         self.table.prepared(alloc)
     }

@@ -5,7 +5,7 @@ ghost use Rattle.std.specs.BTreeMap.{IsOrdered, get};
 ghost use Rattle.std.specs.FinMap as maps;
 ghost use Rattle.std.specs.Option.{option_copied, option_map};
 ghost use Rattle.std.specs.Ordering.{is_eq, nat_cmp};
-ghost use Rattle.fm_branch.specs.Table.{AreNamed, Numbered, doubtful, in_doubt, is_branch_at, with_last, with_phase};
+ghost use Rattle.fm_branch.specs.Table.{HaveBranches, Numbered, doubtful, in_doubt, is_branch_at, with_last, with_phase};
 ghost use Rattle.meaning_areas.specs.Branches.{Branch, branch};
 
 use crate::entry::Entry;
@@ -26,7 +26,7 @@ pub struct BranchTable {
 impl Model for BranchTable {
     ghost use Rattle.std.specs.Prelude.{◌≡◌, true};
     ghost use Rattle.std.specs.FinMap.{from_entries};
-    ghost use Rattle.fm_branch.specs.Table.{AreNamed, Numbered, are_once, numbered_code};
+    ghost use Rattle.fm_branch.specs.Table.{HaveBranches, Numbered, are_once, numbered_code};
 
     ghost Value = { Numbered };
 
@@ -34,7 +34,7 @@ impl Model for BranchTable {
 
     ghost view = { λ t. record { table = from_entries t.entries.entries; prepared = t.prepared.items } };
 
-    ghost invariant = { λ t. AreNamed t.prepared.items (from_entries t.entries.entries) × (are_once t.prepared.items ≡ true) };
+    ghost invariant = { λ t. HaveBranches t.prepared.items (from_entries t.entries.entries) × (are_once t.prepared.items ≡ true) };
 }
 
 impl BranchTable {
@@ -58,7 +58,7 @@ impl BranchTable {
     /// The transactions of the branches, in the order in which they were prepared.
     pub fn prepared(&self, alloc: Global) -> Result<List<u64>, Memory>
         ensures prepared { IfOk result (λ txs. txs ≡ self.now.prepared) }
-        ensures named { AreNamed self.now.prepared self.now.table }
+        ensures named { HaveBranches self.now.prepared self.now.table }
     {
         let txs = Vec::from_slice(alloc, self.prepared.as_slice())?;
         Ok(List::from_vec(txs))

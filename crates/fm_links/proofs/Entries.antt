@@ -28,6 +28,10 @@ module _ (same : List ℕ → List ℕ → Bool) (ties : (q k : List ℕ) → sa
       by true here = ap (λ (p : List ℕ). Some (claim_on p e.1)) (sym (is_at-same q e.0 (sym (ties q e.0) ∙ here)))
       by false there = refl
 
+  -- the same entries in another order
+  pub reordered : (old new : Entries) → ((q : List ℕ) → lookup (same q) new ≡ lookup (same q) old) → claims_in new ≡ claims_in old
+  reordered old new alike = same_keyed _ _ (λ q. found new q ∙ ap (λ (o : Option Claim). option_map (claim_on q) o) (alike q) ∙ sym (found old q))
+
   module _ (old new : Entries) (k : List ℕ) where
     pub put : (v : Claim) → ((q : List ℕ) → lookup (same q) new ≡ cond (same k q) (Some v) (lookup (same q) old)) → claims_in new ≡ maps.insert (claims_in old) k (claim_on k v)
     put v updates = same_keyed _ _ (λ q.

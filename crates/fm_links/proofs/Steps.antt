@@ -33,7 +33,7 @@ use Rattle.meaning_system.specs.Claims.{claim_refusal, conflict, doomed, files_r
 use Rattle.meaning_system.specs.CoreOf.{IsLive, Seen, claimed_by}
 use Rattle.meaning_system.specs.Machine.{begin, begun, by_conflict, committed, crash_database, crash_manager, drawing, is_bound, new_txn, on_session, on_txn, settled_by, start, step, voted, with_phase}
 use Rattle.meaning_system.specs.State.{State, Txn, differs, ended, has_links, is_active, is_decided, is_doomed, moved_of, number_of, tables_of, txn_of, with_txn}
-use Rattle.meaning_system.specs.Writes.{is_committed}
+use Rattle.dl_base.specs.Answers.{is_committed}
 use Rattle.meaning_history.specs.Sound.{AreSound}
 use Rattle.fm_links.proofs.Behind.{gone-claims, put-claims, same-claims, staying-claims}
 use Rattle.fm_links.proofs.Searching.{AreApart, are-apart, claim_in, of_it, only-claims, same-number}

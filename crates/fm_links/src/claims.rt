@@ -6,9 +6,8 @@ ghost use Rattle.fm_links.specs.Claims.{claim_on, laid, moved, unclaimed, with_c
 
 use crate::made::claims_of;
 use dl_base::{LinkNo, LinkRow, List, Memory, Options, Path};
-use indexmap::IndexMap;
 use std::alloc::Global;
-use std::collections::BTreeMap;
+use std::collections::{BTreeMap, HashMap};
 use std::marker::Model;
 
 /// A link that a claim gives or takes, beside its path.
@@ -30,11 +29,11 @@ pub struct Claim {
 #[derive(Drop)]
 pub struct Claims {
     alloc: Global,
-    entries: IndexMap<Path, Claim>,
+    entries: HashMap<Path, Claim>,
 }
 
 impl Model for Claims {
-    ghost use Rattle.indexmap.specs.IndexMap.{spare as room};
+    ghost use Rattle.std.specs.HashMap.{spare as room};
     ghost use Rattle.fm_links.specs.Claims.{ClaimTable, claims_in, table_code};
 
     ghost Value = { ClaimTable };
@@ -51,7 +50,7 @@ impl Claims {
     {
         Claims {
             alloc,
-            entries: IndexMap::new(alloc),
+            entries: HashMap::new(alloc),
         }
     }
 
@@ -116,7 +115,7 @@ impl Claims {
         ensures claims { self.new.claims ≡ maps.remove self.old.claims path.now }
         ensures spare { self.old.spare ≤ self.new.spare }
     {
-        let _ = self.entries.swap_remove(path);
+        let _ = self.entries.remove(path);
     }
 
     // Puts in claims for which there is room, each in place of any other on its path.

@@ -1,5 +1,5 @@
 // What claims by paths answer, and what becomes of them behind each step. The functions do nothing: they carry laws.
-ghost use Rattle.std.specs.Prelude.{◌≡◌, ℕ, Bool, List, Some, None, not, false, true};
+ghost use Rattle.std.specs.Prelude.{◌≡◌, ℕ, Bool, List, Some, None, not, false};
 ghost use Rattle.std.specs.FinMap as maps;
 ghost use Rattle.dl_base.specs.declared.file.FileCmd as cmds;
 ghost use Rattle.dl_base.specs.declared.statement.Stmt as statements;
@@ -20,7 +20,7 @@ ghost use Rattle.meaning_system.specs.Commands.{forbidding};
 ghost use Rattle.meaning_system.specs.CoreOf.{core_of};
 ghost use Rattle.meaning_system.specs.Machine.{drop_left, finish_left, is_left_in, start, step};
 ghost use Rattle.meaning_system.specs.State.{State, Txn, is_active, is_decided, is_prepared, moved_of, tables_of, txn_of};
-ghost use Rattle.meaning_system.specs.Writes.{is_committed};
+ghost use Rattle.dl_base.specs.Answers.{is_committed};
 ghost use Rattle.meaning_history.specs.Sound.{AreSound};
 ghost use Rattle.fm_links.specs.Claims.{PathClaim, without_claim};
 ghost use Rattle.fm_links.specs.Guarding.{committed_on, guards, phase_in, unless_among};

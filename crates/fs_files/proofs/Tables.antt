@@ -25,6 +25,10 @@ found q (e ∷ es) = λ i. cond (sym (texts_ties q e.0) i) (Some e.1) (found q e
 pub get-files_of : (es : List (List ℕ × File)) (q : List ℕ) → files.get (files_of es) q ≡ lookup (pointwise nat_eq q) es
 get-files_of es q = files.get-from_entries nat_list_cmp_total es q ∙ found q es
 
+-- the order of the entries is of no matter
+pub files_of_reordered : (old new : List (List ℕ × File)) → ((q : List ℕ) → lookup (pointwise nat_eq q) new ≡ lookup (pointwise nat_eq q) old) → files_of new ≡ files_of old
+files_of_reordered old new same = files.same_map nat_list_cmp_total only_same _ _ (λ q. get-files_of new q ∙ same q ∙ sym (get-files_of old q))
+
 turned : (k q : List ℕ) → pointwise nat_eq k q ≡ eq_by_cmp (slice_cmp nat_cmp) q k
 turned k q = nat_list_eq_equiv.symm k q ∙ texts_ties q k
 
@@ -53,7 +57,7 @@ module _ (old new : List (List ℕ × File)) (k : List ℕ) (others : (q : List 
 
   -- a key that has no file before or after
   pub files_of_same : lookup (pointwise nat_eq k) new ≡ None → lookup (pointwise nat_eq k) old ≡ None → files_of new ≡ files_of old
-  files_of_same none was = files.same_map nat_list_cmp_total only_same _ _ (λ q. get-files_of new q ∙ by q (pointwise nat_eq k q) refl ∙ sym (get-files_of old q))
+  files_of_same none was = files_of_reordered old new (λ q. by q (pointwise nat_eq k q) refl)
     where
       by : (q : List ℕ) (b : Bool) → pointwise nat_eq k q ≡ b → lookup (pointwise nat_eq q) new ≡ lookup (pointwise nat_eq q) old
       by q true same = subst (λ (x : List ℕ). lookup (pointwise nat_eq x) new ≡ lookup (pointwise nat_eq x) old) ((bytes_decides k q).0 same) (none ∙ sym was)

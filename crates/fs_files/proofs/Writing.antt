@@ -1,8 +1,7 @@
 -- What an append leaves of the files.
-use Rattle.std.proofs.Common.{◌≡◌, inl, inr, ⊎_elim, ℕ, List, [], ◌∷◌, ◌++◌, refl, sym, ap, subst, ◌∙◌, Option, Some, None, Result, Ok, Err}
-use Rattle.std.specs.Result.{OnOk}
+use Rattle.std.proofs.Common.{◌≡◌, inl, inr, ⊎_elim, ℕ, List, [], ◌∷◌, ◌++◌, refl, sym, ap, subst, ◌∙◌, Option, Some, None}
 use Rattle.std.specs.FinMap as map
-use Rattle.dl_base.proofs.Moments.{touches_none, touches_more}
+use Rattle.dl_base.proofs.Moments.{touches_more}
 use Rattle.dl_base.specs.Outside.{Outside, ChangesOnly}
 use Rattle.dl_base.specs.declared.answer.FileRefusal.{FileRefusal}
 use Rattle.dl_base.specs.declared.area.Area.{Area}
@@ -22,7 +21,7 @@ use Rattle.dl_journal.specs.Open.{Keeps, AddsOne, grown}
 use Rattle.dl_journal.specs.Records.{IsAtRest}
 use Rattle.dl_areas.specs.Batch.{writes_in}
 use Rattle.fs_files.specs.Batch.{Batch, batch_record, batch_write}
-use Rattle.fs_files.specs.Store.{Catalog, extent, Holds, Stands, StandsWithout, StandsAround, IsWriting, record_of}
+use Rattle.fs_files.specs.Store.{Catalog, extent, Holds, HoldsFiles, StandsWithout, StandsAround, IsWriting, record_of}
 use Rattle.meaning_areas.proofs.FilesLaws.{files_of-push, file-there, command-does}
 use Rattle.meaning_areas.specs.FilesArea.{accepted_writes, files_step, user_record, user_records, with_record, writes}
 use Rattle.meaning_files.specs.Commands.{refusal_of, refusal, with_file, put, command_changes, changed}
@@ -58,7 +57,7 @@ holds_after now j k files later spare left made body count o n view at grew fits
     }
 
 -- each image of an area that holds a list has it
-pub holds_image : (now : Catalog) (bodies : List (List ℕ)) (o : Outside) → Holds now bodies o → (c : List ℕ) → o.image areas.Files c → Stands bodies now.files c
+pub holds_image : (now : Catalog) (bodies : List (List ℕ)) (o : Outside) → Holds now bodies o → (c : List ℕ) → o.image areas.Files c → HoldsFiles bodies now.files c
 holds_image now bodies o held c left = record { at_rest = held.keeps.images c left; stands = held.stands }
 
 -- a record is appended
@@ -156,6 +155,6 @@ module _ (was now : Catalog) (cmd : FileCmd) (made : Batch) (a : Asked was now c
     where
       wider : (c : List ℕ) → StandsWithout now made o c → StandsAround was cmd o c
       wider c stands bodies held = ⊎_elim
-          (λ old. inl (subst (λ (f : Files). Stands bodies f c) files-same old))
-          (λ new. inr (subst (λ (more : List (List ℕ)). Stands (bodies ++ more) (changed was.files cmd) c) writes-made new))
+          (λ old. inl (subst (λ (f : Files). HoldsFiles bodies f c) files-same old))
+          (λ new. inr (subst (λ (more : List (List ℕ)). HoldsFiles (bodies ++ more) (changed was.files cmd) c) writes-made new))
           (stands bodies (changed was.files cmd) asked-taken (holds-same bodies o held))

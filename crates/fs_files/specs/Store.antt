@@ -38,19 +38,19 @@ pub record Holds (c : Catalog) (bodies : List (List ℕ)) (o : Outside) : Type 0
   pub stands : files_of bodies ≡ Ok c.files
 
 -- an area with these bodies, which stand for these files
-pub record Stands (bodies : List (List ℕ)) (files : Files) (c : List ℕ) : Type 0 where
+pub record HoldsFiles (bodies : List (List ℕ)) (files : Files) (c : List ℕ) : Type 0 where
   pub at_rest : IsAtRest bodies c
   pub stands : files_of bodies ≡ Ok files
 
 -- of each list that the area holds it has that list, without a batch or with its record
 abbrev pub StandsWithout : Catalog → Batch → Outside → List ℕ → Type 0
 StandsWithout old made o c = (bodies : List (List ℕ)) (later : Files) → with_changes old.files made.changes ≡ Some later → Holds old bodies o
-    → Stands bodies old.files c ⊎ Stands (bodies ++ batch_record made ∷ []) later c
+    → HoldsFiles bodies old.files c ⊎ HoldsFiles (bodies ++ batch_record made ∷ []) later c
 
 -- the same of a command that is accepted
 abbrev pub StandsAround : Catalog → FileCmd → Outside → List ℕ → Type 0
 StandsAround old cmd o c = (bodies : List (List ℕ)) → Holds old bodies o
-    → Stands bodies old.files c ⊎ Stands (bodies ++ writes old.files cmd) (changed old.files cmd) c
+    → HoldsFiles bodies old.files c ⊎ HoldsFiles (bodies ++ writes old.files cmd) (changed old.files cmd) c
 
 -- the closing gate is there
 abbrev pub IsReady : Catalog → Outside → Type 0

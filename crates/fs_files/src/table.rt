@@ -3,28 +3,27 @@ ghost use Rattle.std.specs.Prelude.{◌≡◌, ◌<◌, ◌≤◌, ◌+◌, ℕ,
 ghost use Rattle.std.specs.BTreeMap.{insert_entry};
 ghost use Rattle.std.specs.Cmp.Lexicographic.{pointwise, slice_cmp};
 ghost use Rattle.std.specs.FinMap as map;
+ghost use Rattle.std.specs.HashMap.{get, spare as room};
 ghost use Rattle.std.specs.Option.{option_copied, option_map};
 ghost use Rattle.std.specs.Ordering.{nat_cmp};
-ghost use Rattle.indexmap.specs.IndexMap.{get, spare as room};
 ghost use Rattle.dl_base.specs.declared.file.File.{File};
 ghost use Rattle.meaning_files.specs.Commands.{rows_of};
 ghost use Rattle.meaning_files.specs.Files.{with_owner};
 
 use dl_base::{Copied, File, FileRow, List, Memory, Owner, Path};
-use indexmap::IndexMap;
 use std::alloc::Global;
-use std::collections::BTreeMap;
+use std::collections::{BTreeMap, HashMap};
 use std::marker::Model;
 
 /// Files by their paths. Contracts see the files in the order of the paths' bytes, and for how many more there is room.
 #[derive(Drop)]
 pub struct FileTable {
-    entries: IndexMap<Path, File>,
+    entries: HashMap<Path, File>,
 }
 
 impl Model for FileTable {
-    ghost use Rattle.indexmap.specs.IndexMap.{spare as room};
     ghost use Rattle.std.specs.FinMap.{from_entries};
+    ghost use Rattle.std.specs.HashMap.{spare as room};
     ghost use Rattle.fs_files.specs.Table.{Table, table_code};
 
     ghost Value = { Table };
@@ -40,7 +39,7 @@ impl FileTable {
         ensures { result.files ≡ map.empty }
     {
         FileTable {
-            entries: IndexMap::new(alloc),
+            entries: HashMap::new(alloc),
         }
     }
 
@@ -96,7 +95,7 @@ impl FileTable {
         ensures removed { self.new.files ≡ map.remove self.old.files path.now }
         ensures room { self.old.spare ≤ self.new.spare }
     {
-        self.entries.swap_remove(path).is_some()
+        self.entries.remove(path).is_some()
     }
 
     /// Gives the file at a path a new owner and a new saved owner, and says whether there is one. It takes no memory.
@@ -110,7 +109,7 @@ impl FileTable {
 }
 
 // Copies of all files, in the order of the paths' bytes.
-fn sorted(alloc: Global, entries: &IndexMap<Path, File>) -> Result<BTreeMap<Path, File>, Memory>
+fn sorted(alloc: Global, entries: &HashMap<Path, File>) -> Result<BTreeMap<Path, File>, Memory>
     ensures { IfOk result (λ made. made.entries ≡ map.entries (map.from_entries {R = slice_cmp nat_cmp} entries.now.entries)) }
 {
     let mut made = BTreeMap::new(alloc);
@@ -132,7 +131,7 @@ fn put_copy(made: &mut BTreeMap<Path, File>, path: &Path, file: &File) -> Result
 
 // The owners of the file at a path, if there is one.
 fn renew(
-    entries: &mut IndexMap<Path, File>,
+    entries: &mut HashMap<Path, File>,
     path: &Path,
     owner: Owner,
     before: Option<Owner>,

@@ -2,6 +2,7 @@
 use Rattle.std.specs.Prelude.{◌≡◌, ℕ, ◌+◌, ◌/◌, ◌^◌, ◌==◌, ◌&&◌, Bool, true, false, not, nat_lt, nat_le, if◌then◌else◌, List, [], ◌∷◌, ◌++◌, length, map, pos, Option, Some, None, is_none, Result, Ok, Err}
 use Rattle.std.specs.List.{list_all}
 use Rattle.std.specs.Option.{option_and_then}
+use Rattle.dl_base.specs.Limits.{most_columns}
 use Rattle.dl_base.specs.declared.column.Column.{Column}
 use Rattle.dl_base.specs.declared.column.ColumnRule.{ColumnRule}
 use Rattle.dl_base.specs.declared.column.ColumnRule.TheVariants as rules
@@ -106,7 +107,7 @@ is_made (Ok cs) = true
 is_made (Err fault) = false
 
 abbrev pub columns_stand : List Column → Bool
-columns_stand cs = nat_le (length cs) 64 && is_made (columns_made [] false (map definition_of cs))
+columns_stand cs = nat_le (length cs) most_columns && is_made (columns_made [] false (map definition_of cs))
 
 -- changes of tables
 

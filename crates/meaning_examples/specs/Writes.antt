@@ -3,6 +3,7 @@ use Rattle.std.specs.Prelude.{ℕ, ◌+◌, ◌&&◌, Bool, true, false, not, if
 use Rattle.meaning_examples.specs.Maps as maps
 use Rattle.std.specs.List.{find, flat_map}
 use Rattle.std.specs.Option.{unwrap_or}
+use Rattle.dl_base.specs.Answers.{is_refused}
 use Rattle.dl_base.specs.declared.answer.Answer.{Answer}
 use Rattle.dl_base.specs.declared.answer.Answer.TheVariants as answers
 use Rattle.dl_base.specs.declared.file.File.{File}
@@ -54,15 +55,7 @@ taken_by fill l = record { link = l; fill = fill && l.options.recovery }
 abbrev pub prepared : ℕ → Moved → List Written
 prepared tx m = when (has_links m) (in_links (links_records.Prepared tx m.gives (map (taken_by m.fill) m.takes)) ∷ [])
 
--- a step on the transaction of a session; whether it was refused
-abbrev pub is_refused : Answer → Bool
-is_refused (answers.Refused why) = true
-is_refused _ = false
-
-abbrev pub is_committed : Answer → Bool
-is_committed (answers.Committed c) = true
-is_committed _ = false
-
+-- a step on the transaction of a session
 abbrev pub decide_writes : State → ℕ → Txn → Answer → List Written
 decide_writes s tx t (answers.Committed c) = in_rows (rows_records.Commit tx c (has_links (moved_of t)) (commit_changes t.base t.copy)) ∷ []
 decide_writes s tx t (answers.Refused why) = aborted tx (moved_of t)

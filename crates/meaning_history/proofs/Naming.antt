@@ -1,14 +1,14 @@
 -- Names of tables that a statement adds, and the versions that a commit without a conflict has seen.
-use Rattle.std.proofs.Common.{◌≡◌, ℕ, ◌==◌, List, [], ◌∷◌, ◌++◌, Bool, true, false, cond, ◌||◌, bytes_eq, Option, Some, None, refl, sym, ◌∙◌, ap, arith}
+use Rattle.std.proofs.Common.{◌≡◌, ℕ, ◌==◌, List, [], ◌∷◌, ◌++◌, Bool, true, false, cond, ◌||◌, bytes_eq, Some, None, refl, sym, ◌∙◌, ap, arith}
 use Rattle.std.proofs.lemmas.Bool.Decides.{nat_tests}
 use Rattle.std.specs.List.{list_any}
 use Rattle.dl_base.specs.declared.answer.Refusal.TheVariants as reasons
 use Rattle.dl_base.specs.declared.statement.Stmt.{Stmt}
 use Rattle.dl_base.specs.declared.statement.Stmt.TheVariants as statements
-use Rattle.meaning_merge.specs.History.{AreCurrent, changed_by, is_among, version}
+use Rattle.meaning_merge.specs.History.{AreCurrent, changed_by, is_among}
 use Rattle.meaning_merge.proofs.Keeping.{name-same}
-use Rattle.meaning_tables.specs.Tables.{Rows, Tables, table_of}
-use Rattle.meaning_system.specs.Claims.{conflict, version as version_at, version_of, with_names}
+use Rattle.meaning_tables.specs.Tables.{Tables, table_of, version}
+use Rattle.meaning_system.specs.Claims.{conflict, version_of, with_names}
 use Rattle.meaning_system.specs.Sql.{named_by}
 
 false_true : false ≡ true → ⊥
@@ -59,10 +59,6 @@ changed-named (statements.Select q) name e = refl
 
 -- versions
 
-versions-are : (o : Option Rows) → version_at o ≡ version o
-versions-are None = refl
-versions-are (Some t) = refl
-
 same-number : (a b : ℕ) → (a == b) ≡ true → a ≡ b
 same-number a b e = grind (arith, nat_tests)
 
@@ -73,7 +69,7 @@ current base now (n ∷ ns) none name among = by (current base now ns) (version_
     here : ((m : List ℕ) → is_among ns m ≡ true → version (table_of base m) ≡ version (table_of now m)) → version_of base n ≡ version_of now n → (b : Bool) → bytes_eq name n ≡ b → (b || is_among ns name) ≡ true → version (table_of base name) ≡ version (table_of now name)
     here rest seen true is any =
         let e : name ≡ n = name-same name n is in
-        ap (λ m. version (table_of base m)) e ∙ sym (versions-are (table_of base n)) ∙ seen ∙ versions-are (table_of now n) ∙ ap (λ m. version (table_of now m)) (sym e)
+        ap (λ m. version (table_of base m)) e ∙ seen ∙ ap (λ m. version (table_of now m)) (sym e)
     here rest seen false is any = rest name any
 
     by : (conflict base now ns ≡ None → AreCurrent base now ns) → (b : Bool) → (version_of base n == version_of now n) ≡ b → cond b (conflict base now ns) (Some (reasons.Conflict n (version_of base n) (version_of now n))) ≡ None

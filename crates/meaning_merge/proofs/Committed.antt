@@ -9,9 +9,9 @@ use Rattle.meaning_areas.specs.Stands.{past}
 use Rattle.meaning_areas.proofs.Tables.{commit_of-here}
 use Rattle.meaning_tables.specs.Fits.{table_fits, rows_fit, differ, Fits}
 use Rattle.meaning_tables.specs.Links.{links, same_number}
-use Rattle.meaning_tables.specs.Tables.{Rows, Tables, IsNumbered, table_of}
+use Rattle.meaning_tables.specs.Tables.{IsNumbered, Rows, Tables, table_of, version}
 use Rattle.sql_invariants.specs.Ordered.{AreOrdered}
-use Rattle.meaning_merge.specs.History.{EachTable, Subsequence, ends, leaves, keeps, older, CopyOf, makes, drops, has, IsHistory, IsTransaction, AreCurrent, is_used, version}
+use Rattle.meaning_merge.specs.History.{EachTable, Subsequence, ends, leaves, keeps, older, CopyOf, makes, drops, has, IsHistory, IsTransaction, AreCurrent, is_used}
 use Rattle.meaning_merge.specs.Merging.{Fate, stays, goes, becomes, fate_of, as_version, by_fate, kept_at, new_at, new_ones, merge, AreNamed}
 use Rattle.meaning_merge.specs.Touching.{In, EachLink}
 use Rattle.meaning_merge.proofs.Histories.{past-last, past-within, past-push, ordered-numbered, named-ordered, within, beyond}

@@ -9,8 +9,8 @@ use Rattle.dl_base.specs.declared.value.Value.TheVariants as values
 use Rattle.meaning_areas.specs.Commits.{Commit, commit_to, tables_after, with_table_changes}
 use Rattle.meaning_statements.specs.Creating.{db2_options}
 use Rattle.meaning_tables.specs.Links.{gives, takes}
-use Rattle.meaning_tables.specs.Tables.{Rows, Tables, table_of}
-use Rattle.meaning_merge.specs.History.{makes, has, IsHistory, IsTransaction, AreCurrent, version}
+use Rattle.meaning_tables.specs.Tables.{Rows, Tables, table_of, version}
+use Rattle.meaning_merge.specs.History.{makes, has, IsHistory, IsTransaction, AreCurrent}
 use Rattle.meaning_merge.specs.Merging.{merge, commit_changes}
 use Rattle.meaning_merge.specs.Touching.{Touches}
 use Rattle.meaning_merge.proofs.Committed.{goes-on, merge-follows, no-commits}

@@ -10,8 +10,8 @@ use Rattle.meaning_areas.proofs.Equal.{rows-decide}
 use Rattle.meaning_settling.proofs.KeyedLaws.{either, false_true, or-right}
 use Rattle.meaning_tables.specs.Fits.{fits, rows_fit}
 use Rattle.meaning_tables.specs.Links.{table_links, links}
-use Rattle.meaning_tables.specs.Tables.{Rows, Tables, table_of}
-use Rattle.meaning_merge.specs.History.{EachTable, older, IsHistory, IsTransaction, AreCurrent, is_used, version, is_among}
+use Rattle.meaning_tables.specs.Tables.{Rows, Tables, table_of, version}
+use Rattle.meaning_merge.specs.History.{EachTable, older, IsHistory, IsTransaction, AreCurrent, is_used, is_among}
 use Rattle.meaning_merge.specs.Merging.{Fate, stays, goes, becomes, fate_of, new_ones, merge, AreNamed}
 use Rattle.meaning_merge.specs.Touching.{In, is_in, EachLink, Untouched, Touches}
 use Rattle.meaning_merge.proofs.Histories.{past-last, past-within, ordered-named, not-zero, not-next, is-self, within}

@@ -1,5 +1,5 @@
 -- The history behind a commit: what holds of the tables after each commit, and of a transaction's base, copy and named tables.
-use Rattle.std.specs.Prelude.{◌≡◌, ◌⊎◌, ◌||◌, ℕ, ◌<◌, ◌≤◌, true, false, nat_le, nat_lt, List, [], ◌∷◌, filter, bytes_eq, Bool, Option, Some, None, is_some}
+use Rattle.std.specs.Prelude.{◌≡◌, ◌⊎◌, ◌||◌, ℕ, ◌<◌, ◌≤◌, true, false, nat_le, nat_lt, List, [], ◌∷◌, filter, bytes_eq, Bool, Some, is_some}
 use Rattle.std.specs.List.{list_any}
 use Rattle.dl_base.specs.declared.statement.Stmt.{Stmt}
 use Rattle.dl_base.specs.declared.statement.Stmt.TheVariants as statements
@@ -7,7 +7,7 @@ use Rattle.meaning_areas.specs.Commits.{Commit, commit_of, columns_stand}
 use Rattle.meaning_areas.specs.Stands.{past}
 use Rattle.meaning_tables.specs.Fits.{Fits}
 use Rattle.meaning_tables.specs.Links.{links}
-use Rattle.meaning_tables.specs.Tables.{Rows, Tables, table_of}
+use Rattle.meaning_tables.specs.Tables.{Rows, Tables, table_of, version}
 use Rattle.sql_invariants.specs.Free.{IsFree}
 use Rattle.sql_invariants.specs.Ordered.{AreOrdered}
 use Rattle.meaning_merge.specs.Touching.{In, EachLink}
@@ -80,11 +80,6 @@ changed_by (statements.Update name sets filter) = name ∷ []
 changed_by (statements.Delete name filter) = name ∷ []
 changed_by _ = []
 
--- No conflict: the named tables have in the committed tables the version that they have in the base; 0 is that of no table.
-
-abbrev pub version : Option Rows → ℕ
-version None = 0
-version (Some t) = t.version
-
+-- no conflict: the named tables have in the committed tables the version that they have in the base
 abbrev pub AreCurrent : Tables → Tables → List (List ℕ) → Type 0
 AreCurrent base committed names = (name : List ℕ) → is_among names name ≡ true → version (table_of base name) ≡ version (table_of committed name)

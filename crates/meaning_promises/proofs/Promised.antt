@@ -17,7 +17,8 @@ use Rattle.meaning_run.specs.Running.{Run, after, next_step, step_writes, turn, 
 use Rattle.meaning_run.proofs.Turns.{written-after}
 use Rattle.meaning_system.specs.Machine.{on_session, on_txn, step}
 use Rattle.meaning_system.specs.State.{State, Txn, has_links, moved_of, txn_of}
-use Rattle.meaning_system.specs.Writes.{decide_writes, is_refused, prepared, session_writes, txn_writes, when, writes}
+use Rattle.dl_base.specs.Answers.{is_refused}
+use Rattle.meaning_system.specs.Writes.{decide_writes, prepared, session_writes, txn_writes, when, writes}
 use Rattle.meaning_promises.specs.Promises.{IsDecision, IsVote, decision_record, vote_record}
 
 abbrev IsDone : Answer → Type 0

@@ -15,7 +15,8 @@ use Rattle.meaning_run.proofs.Lowering.{Lowers, commit-lowers, prepare-refused, 
 use Rattle.meaning_run.specs.Built.{is_built}
 use Rattle.meaning_run.specs.Running.{Read, Run, actor_state, after, by_kind, by_right, comes_to, met, next_step, number_of, pending_links, phase_in, step_in, step_on, stepped, stores_copies, turn, turn_on, turned, StoresNone}
 use Rattle.meaning_script.specs.Actors.{is_extra}
-use Rattle.meaning_script.specs.Expansion.{Then, does, given, answered, silent, alone, commit, commit_behind, commit_by, expansion, file, first_step, goes_on, is_begun, is_commit, is_refused, last_of, one, session, statement, step_from, system, told_commit}
+use Rattle.dl_base.specs.Answers.{is_committed, is_refused}
+use Rattle.meaning_script.specs.Expansion.{Then, does, given, answered, silent, alone, commit, commit_behind, commit_by, expansion, file, first_step, goes_on, is_begun, last_of, one, session, statement, step_from, system, told_commit}
 use Rattle.meaning_script.specs.declared.kind.Line.{Line}
 use Rattle.meaning_script.specs.declared.kind.Line.TheVariants as lines
 use Rattle.meaning_script.specs.declared.kind.Order.TheVariants as orders
@@ -109,7 +110,7 @@ told-none (Some k) = refl
 
 goes-none : (done : List Answer) → step_in (goes_on None done) ≡ None
 unfolding goes_on
-goes-none done = told-none (position is_commit done)
+goes-none done = told-none (position is_committed done)
 
 goes-some : (y : Step) (done : List Answer) → step_in (goes_on (Some y) done) ≡ Some y
 unfolding goes_on

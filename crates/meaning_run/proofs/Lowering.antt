@@ -12,7 +12,8 @@ use Rattle.dl_base.specs.declared.step.Step.{Step}
 use Rattle.dl_base.specs.declared.step.Step.TheVariants as steps
 use Rattle.meaning_areas.proofs.Tables.{get-here, some_same, test-same}
 use Rattle.meaning_run.specs.Running.{phase_in}
-use Rattle.meaning_script.specs.Expansion.{is_refused, step_from}
+use Rattle.dl_base.specs.Answers.{is_refused}
+use Rattle.meaning_script.specs.Expansion.{step_from}
 use Rattle.meaning_system.proofs.Leading.{txn-there}
 use Rattle.meaning_system.specs.Claims.{conflict, prepare_refusal}
 use Rattle.meaning_system.specs.Machine.{by_conflict, committed, decide, next_commit, on_session, on_txn, settled_by, step, voted, with_phase}

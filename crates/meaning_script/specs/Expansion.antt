@@ -1,5 +1,6 @@
 -- The steps that a line takes, one after another, and its answer.
 use Rattle.std.specs.Prelude.{ℕ, ◌-◌, Bool, true, false, if◌then◌else◌, List, [], ◌∷◌, length, Option, Some, None, slice_get, position}
+use Rattle.dl_base.specs.Answers.{is_committed, is_refused}
 use Rattle.dl_base.specs.declared.answer.Answer.{Answer}
 use Rattle.dl_base.specs.declared.answer.Answer.TheVariants as answers
 use Rattle.dl_base.specs.declared.answer.Refusal.{Refusal}
@@ -35,14 +36,6 @@ pub data Then : Type 0 where
 
 -- ---- answers
 
-abbrev pub is_refused : Answer → Bool
-is_refused (answers.Refused why) = true
-is_refused _ = false
-
-abbrev pub is_commit : Answer → Bool
-is_commit (answers.Committed c) = true
-is_commit _ = false
-
 abbrev pub is_begun : Answer → Bool
 is_begun (answers.Begun tx) = true
 is_begun _ = false
@@ -68,7 +61,7 @@ behind_prepare s said prepared =
 
 unfoldable pub behind_decide : ℕ → Answer → Answer → Then
 behind_decide s prepared decided =
-    if is_refused prepared then given 2 else (if is_refused decided then given 3 else (if is_commit decided then does (steps.Finish s) else given 1))
+    if is_refused prepared then given 2 else (if is_refused decided then given 3 else (if is_committed decided then does (steps.Finish s) else given 1))
 
 abbrev pub behind_finish : Answer → Then
 behind_finish finished = if is_refused finished then given 4 else given 1
@@ -112,7 +105,7 @@ told_commit (Some k) = given k
 
 unfoldable pub goes_on : Option Step → List Answer → Then
 goes_on (Some step) done = does step
-goes_on None done = told_commit (position is_commit done)
+goes_on None done = told_commit (position is_committed done)
 
 -- the answer of the last step so far
 abbrev pub last_of : List Answer → Option Answer

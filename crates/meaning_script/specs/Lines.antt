@@ -2,11 +2,9 @@
 use Rattle.std.specs.Prelude.{ℕ, Bool, ◌&&◌, ◌||◌, not, ◌==◌, nat_le, List, length, codes}
 use Rattle.std.specs.Cmp.Lexicographic.{pointwise}
 use Rattle.std.specs.List.{list_all, starts_with}
+use Rattle.dl_base.specs.Blank.{is_blank}
 use Rattle.dl_base.specs.Limits.{most_actor_name_bytes}
 use Rattle.dl_base.specs.Name.{name_test}
-
-abbrev pub is_blank : ℕ → Bool
-is_blank b = b == 32 || b == 9
 
 -- a line that is answered nothing: blanks alone, or a comment, which begins with two dashes
 unfoldable pub is_quiet : List ℕ → Bool

@@ -30,7 +30,7 @@ pub enum Sentence {
 }
 
 /// What a line that begins with `!` asks.
-#[derive(Clone, Copy, Debug, PartialEq, Eq)]
+#[derive(Clone, Copy)]
 pub enum Order {
     /// So many seconds pass, at most 1,000,000,000.
     Tick(u64),
@@ -47,7 +47,7 @@ pub enum Order {
 }
 
 /// What `restore` names.
-#[derive(Clone, Copy, Debug, PartialEq, Eq)]
+#[derive(Clone, Copy)]
 pub enum Kept {
     Backup,
     Commit,

@@ -5,11 +5,11 @@ use Rattle.meaning_areas.specs.Commits.{Commit, tables_after}
 use Rattle.meaning_areas.specs.Same.{same_rows}
 use Rattle.meaning_areas.specs.Stands.{past}
 use Rattle.meaning_areas.proofs.Equal.{rows-decide}
-use Rattle.meaning_merge.specs.History.{AreCurrent, EachTable, IsHistory, IsTransaction, Subsequence, ends, keeps, leaves, is_among, older, version}
+use Rattle.meaning_merge.specs.History.{AreCurrent, EachTable, IsHistory, IsTransaction, Subsequence, ends, keeps, leaves, is_among, older}
 use Rattle.meaning_merge.specs.Merging.{AreNamed, Fate, as_version, becomes, by_fate, fate_of, goes as fate_goes, merge, stays as fate_stays}
 use Rattle.meaning_merge.proofs.Histories.{not-zero, ordered-named, past-last, past-within, within}
 use Rattle.meaning_merge.proofs.Keeping.{at-head, each-map, found-each, in-tail, not-head, past-head}
-use Rattle.meaning_tables.specs.Tables.{Rows, Tables, table_of}
+use Rattle.meaning_tables.specs.Tables.{Rows, Tables, table_of, version}
 use Rattle.meaning_serial.specs.Serial.{without_versions}
 use Rattle.meaning_serial.proofs.Beside.{Beside, Stays, goes, has, new}
 use Rattle.meaning_serial.proofs.Deeds.{false_true, made_in, none_some, some_same}

@@ -41,5 +41,5 @@ Computes view (Ok x) meaning = meaning ≡ Ok (view x)
 Computes view (Err e) meaning = e ≢ faults.Memory → meaning ≡ Err e
 
 -- a call that was handed x returned what step makes of x, whatever meaning x gives
-abbrev pub Follows : {X Y : Type 0} → Result X SqlFault → (X → Result Y SqlFault) → Result Y SqlFault → Type 0
-Follows {X} x step result = (m : Result X SqlFault) → Computes (λ v. v) x m → Computes (λ v. v) result (m >>= step)
+abbrev pub ComputesAfter : {X Y : Type 0} → Result X SqlFault → (X → Result Y SqlFault) → Result Y SqlFault → Type 0
+ComputesAfter {X} x step result = (m : Result X SqlFault) → Computes (λ v. v) x m → Computes (λ v. v) result (m >>= step)

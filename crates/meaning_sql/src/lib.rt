@@ -7,7 +7,7 @@ use dl_base::{Column, List, Name};
 pub type Columns = List<(Name, Column)>;
 
 /// The type of an expression.
-#[derive(Clone, Copy, Debug, PartialEq, Eq)]
+#[derive(Clone, Copy)]
 pub enum SqlType {
     /// INTEGER.
     Int,

@@ -326,6 +326,9 @@ t = source 116 None
 missing_before_too_many : sources_of (tables []) (t ∷ t ∷ t ∷ t ∷ t ∷ t ∷ t ∷ t ∷ source 120 None ∷ []) ≡ Err (faults.NoTable (120 ∷ []))
 missing_before_too_many = refl
 
+last_source : sources_of (tables []) (t ∷ t ∷ t ∷ t ∷ t ∷ t ∷ t ∷ t ∷ []) ≡ Err (faults.Ambiguous (116 ∷ []))
+last_source = refl
+
 too_many_before_a_name_twice : sources_of (tables []) (t ∷ t ∷ t ∷ t ∷ t ∷ t ∷ t ∷ t ∷ t ∷ []) ≡ Err (faults.Limit limits.From)
 too_many_before_a_name_twice = refl
 

@@ -1,6 +1,7 @@
 -- The columns that CREATE TABLE makes.
 use Rattle.std.specs.Prelude.{ℕ, ◌+◌, ◌&&◌, ◌||◌, Bool, true, false, not, List, [], ◌∷◌, bytes_eq, Result, Ok, Err, if◌then◌else◌, nat_le, nat_lt, pos, negsuc, ℤ}
 use Rattle.std.specs.List.{list_any}
+use Rattle.dl_base.specs.Limits.{most_varchar_bytes}
 use Rattle.dl_base.specs.declared.column.Column.{Column}
 use Rattle.dl_base.specs.declared.column.ColumnRule.{ColumnRule}
 use Rattle.dl_base.specs.declared.column.ColumnRule.TheVariants as rules
@@ -35,7 +36,7 @@ controlled kept options = if is_all kept && is_option_row options then Ok (kinds
 
 -- a length from 1 to 4,000 bytes
 abbrev pub text_kind : List ℕ → ℤ → Result Kind SqlFault
-text_kind name (pos n) = if nat_lt 0 n && nat_le n 4000 then Ok (kinds.Text n) else Err (faults.TooLong name)
+text_kind name (pos n) = if nat_lt 0 n && nat_le n most_varchar_bytes then Ok (kinds.Text n) else Err (faults.TooLong name)
 text_kind name (negsuc n) = Err (faults.TooLong name)
 
 abbrev pub kind_made : List ℕ → KindDef → Result Kind SqlFault

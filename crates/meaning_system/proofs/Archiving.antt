@@ -37,7 +37,8 @@ use Rattle.meaning_system.specs.CoreOf.{claimed_by, core_of, stage_of, work_at, 
 use Rattle.meaning_system.specs.Following.{Follows, Leads}
 use Rattle.meaning_system.specs.Machine.{archive_file, archive_on, decided_takes, has_link, pending, step, with_copy}
 use Rattle.meaning_system.specs.State.{State, Txn, differs, is_active, is_decided, moved_of, tables_of}
-use Rattle.meaning_system.specs.Writes.{archive_list, copy_list, is_refused, when, writes}
+use Rattle.dl_base.specs.Answers.{is_refused}
+use Rattle.meaning_system.specs.Writes.{archive_list, copy_list, when, writes}
 use Rattle.meaning_system.proofs.Leading.{stays}
 use Rattle.meaning_system.proofs.Stepping.{same-self}
 

@@ -52,7 +52,8 @@ use Rattle.meaning_system.specs.CoreOf.{core_of}
 use Rattle.meaning_system.specs.Following.{Follows, HaveRows, Leads}
 use Rattle.meaning_system.specs.Machine.{by_refusal, step}
 use Rattle.meaning_system.specs.State.{State, Txn, is_decided, moved_of, tables_of}
-use Rattle.meaning_system.specs.Writes.{file_writes, is_refused, when, writes}
+use Rattle.dl_base.specs.Answers.{is_refused}
+use Rattle.meaning_system.specs.Writes.{file_writes, when, writes}
 use Rattle.meaning_system.proofs.Archiving.{committed-last, decided-txn, found, one-only, some-found}
 use Rattle.meaning_system.proofs.Leading.{stays}
 use Rattle.meaning_system.proofs.Records.{command-taken}

@@ -43,7 +43,8 @@ use Rattle.meaning_system.specs.CoreOf.{HasClaims, claimed_by, core_of, work_at,
 use Rattle.meaning_system.specs.Following.{AreClaimed, AreRising, Follows, Leads, HaveNumbers}
 use Rattle.meaning_system.specs.Machine.{back_up, back_up_at, begin, on_session, on_txn, pending, settled_by, step, unfinished, voted, with_phase}
 use Rattle.meaning_system.specs.State.{State, Txn, differs, has_links, is_active, is_doomed, kept_in, moved_of, number_of, numbered_txn, tables_of, txn_at, txn_of, with_txn, without_txn}
-use Rattle.meaning_system.specs.Writes.{aborted, backup_writes, image_of, is_refused, prepared, session_writes, taken_by, txn_writes, when, whole_finish, writes}
+use Rattle.dl_base.specs.Answers.{is_refused}
+use Rattle.meaning_system.specs.Writes.{aborted, backup_writes, image_of, prepared, session_writes, taken_by, txn_writes, when, whole_finish, writes}
 use Rattle.meaning_system.proofs.Cores.{no-links, settle-empty, works-remove}
 use Rattle.meaning_system.proofs.Crashing.{state-database, state-manager}
 use Rattle.meaning_system.proofs.Records.{backup-taken}

@@ -15,7 +15,7 @@ use Rattle.meaning_areas.specs.Same.{same_link}
 use Rattle.meaning_settling.specs.Apart.{has_path}
 use Rattle.meaning_settling.specs.Settling.{Moved, on}
 use Rattle.meaning_tables.specs.Links.{links, same_number}
-use Rattle.meaning_tables.specs.Tables.{Rows, Tables, table_of}
+use Rattle.meaning_tables.specs.Tables.{Tables, table_of, version}
 use Rattle.meaning_system.specs.Sql.{Evaluated, evaluated, named_by}
 use Rattle.meaning_system.specs.State.{Txn, State, tables_of, context_of, moved_of, has_links, is_doomed}
 
@@ -60,10 +60,6 @@ gives_refusal s tx [] = None
 gives_refusal s tx (g ∷ gs) = or_else (busy_on s tx g.path) (gives_refusal s tx gs)
 
 -- versions
-
-abbrev pub version : Option Rows → ℕ
-version None = 0
-version (Some t) = t.version
 
 abbrev pub version_of : Tables → List ℕ → ℕ
 version_of tables name = version (table_of tables name)

@@ -44,14 +44,24 @@ options = codes "server" ∷ codes "key" ∷ codes "now" ∷ codes "life" ∷ co
 abbrev pub is_option : List ℕ → Bool
 is_option name = list_any (λ o. bytes_eq o name) options
 
+-- the last moment that may be given, the longest life of a token, both in seconds, and the most bytes of an area
+abbrev pub most_moment : ℕ
+most_moment = 9007199254740992
+
+abbrev pub most_life : ℕ
+most_life = 1000000000
+
+abbrev pub most_area_bytes : ℕ
+most_area_bytes = 1099511627776
+
 -- the text is in the form of what has this name; no other name is said
 abbrev pub is_form : List ℕ → List ℕ → Bool
 is_form name text =
     if bytes_eq (codes "server") name then is_server text
     else (if bytes_eq (codes "key") name then is_some (key_in text)
-    else (if bytes_eq (codes "now") name then is_some (number_in 20 0 9007199254740992 text)
-    else (if bytes_eq (codes "life") name then is_some (number_in 20 1 1000000000 text)
-    else (if bytes_eq (codes "area") name then is_some (number_in 20 1 1099511627776 text)
+    else (if bytes_eq (codes "now") name then is_some (number_in 20 0 most_moment text)
+    else (if bytes_eq (codes "life") name then is_some (number_in 20 1 most_life text)
+    else (if bytes_eq (codes "area") name then is_some (number_in 20 1 most_area_bytes text)
     else (if bytes_eq (codes "command") name then bytes_eq text (codes "run")
     else true)))))
 
@@ -131,9 +141,9 @@ abbrev pub settings_of : (List ℕ → Option (List ℕ)) → Option Settings
 settings_of text = if bytes_eq (unwrap_or (text (codes "command")) []) (codes "run") then (do
   server ← server_in (unwrap_or (text (codes "server")) (codes "fs1"))
   key ← key_in (unwrap_or (text (codes "key")) no_key)
-  now ← number_in 20 0 9007199254740992 (unwrap_or (text (codes "now")) (codes "0"))
-  life ← number_in 20 1 1000000000 (unwrap_or (text (codes "life")) (codes "60"))
-  limit ← number_in 20 1 1099511627776 (unwrap_or (text (codes "area")) (codes "1099511627776"))
+  now ← number_in 20 0 most_moment (unwrap_or (text (codes "now")) (codes "0"))
+  life ← number_in 20 1 most_life (unwrap_or (text (codes "life")) (codes "60"))
+  limit ← number_in 20 1 most_area_bytes (unwrap_or (text (codes "area")) (codes "1099511627776"))
   Some (record { server = server; key = key; now = now; life = life; limit = limit })) else None
 
 abbrev pub settled : List NamedText → Option Settings
@@ -151,7 +161,7 @@ settings words = if list_all is_utf8 words then (do
   settled said) else None
 
 -- the answer is that of the definition, unless memory ran out
-abbrev pub Says : {A : Type 0} → Result A WordsFault → Option A → Type 0
-Says (Ok a) want = want ≡ Some a
-Says (Err Usage) want = want ≡ None
-Says (Err Memory) want = Unit {0}
+abbrev pub AnswersAs : {A : Type 0} → Result A WordsFault → Option A → Type 0
+AnswersAs (Ok a) want = want ≡ Some a
+AnswersAs (Err Usage) want = want ≡ None
+AnswersAs (Err Memory) want = Unit {0}

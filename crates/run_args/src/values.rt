@@ -2,7 +2,7 @@
 ghost use Rattle.std.specs.Prelude.{◌≡◌, ◌≤◌, IfSome};
 ghost use Rattle.std.specs.List.{list_all};
 ghost use Rattle.dl_base.specs.Digits.{number_in};
-ghost use Rattle.run_args.specs.Words.{Says, is_lower, is_server_byte, is_server, server_in, key_in};
+ghost use Rattle.run_args.specs.Words.{AnswersAs, is_lower, is_server_byte, is_server, server_in, key_in};
 
 use crate::fault::WordsFault;
 use dl_base::{Name, is_name};
@@ -31,7 +31,7 @@ fn is_server(text: &[u8]) -> bool
 /// The name of a server.
 #[tactic(auto, unfolding(crate::specs::Words::is_server))]
 pub(crate) fn server_in(alloc: Global, text: &[u8]) -> Result<Name, WordsFault>
-    ensures { Says result (server_in text.now) }
+    ensures { AnswersAs result (server_in text.now) }
 {
     if !is_server(text) {
         return Err(WordsFault::Usage);

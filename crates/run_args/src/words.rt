@@ -4,7 +4,7 @@ ghost use Rattle.std.specs.List.{list_all};
 ghost use Rattle.std.specs.Str.{is_utf8};
 ghost use Rattle.clap.specs.Words.{rows_of, found_of};
 ghost use Rattle.run_args.specs.Command.{settings_in};
-ghost use Rattle.run_args.specs.Words.{Says, names_run, settings};
+ghost use Rattle.run_args.specs.Words.{AnswersAs, names_run, settings};
 ghost use Rattle.run_args.specs.declared.fault.WordsFault.TheVariants as faults;
 
 use crate::fault::WordsFault;
@@ -26,7 +26,7 @@ const NO_KEY: &str = "0000000000000000000000000000000000000000000000000000000000
 /// `Usage` comes only where the words say nothing, and always where `run` is not among them or one of them is no UTF-8.
 #[tactic(auto, using(crate::proofs::Agree::agree, crate::proofs::Run::without_run))]
 pub fn read_words(alloc: Global, words: &[Text]) -> Result<Settings, WordsFault>
-    ensures exact { Says result (settings words.now) }
+    ensures exact { AnswersAs result (settings words.now) }
     ensures bounded { IfOk result (λ s. (1 ≤ s.limit) × (s.limit ≤ 1099511627776)) }
     ensures texts { list_all is_utf8 words.now ≡ false → result ≡ Err faults.Usage }
     ensures named { names_run words.now ≡ false → result ≡ Err faults.Usage }
@@ -92,7 +92,7 @@ fn texts<'a>(alloc: Global, words: &'a [Text]) -> Result<Option<Vec<&'a str>>, M
 
 #[tactic(auto, unfolding(crate::specs::Command::settings_in))]
 fn settings_in(alloc: Global, matches: &ArgMatches<'_>) -> Result<Settings, WordsFault>
-    ensures exact { Says result (settings_in (rows_of (found_of matches.now))) }
+    ensures exact { AnswersAs result (settings_in (rows_of (found_of matches.now))) }
     ensures bounded { IfOk result (λ s. (1 ≤ s.limit) × (s.limit ≤ 1099511627776)) }
 {
     if given(matches, "command", "") != "run" {

@@ -4,7 +4,8 @@ ghost use Rattle.std.specs.Option.{option_map};
 ghost use Rattle.dl_base.specs.declared.file.FileWhat.{FileWhat as What};
 ghost use Rattle.fs_command.specs.Commands.{asked as asks, read_of_path};
 ghost use Rattle.dl_token.specs.Tokens.{read_token};
-ghost use Rattle.meaning_script.specs.Expansion.{meant, expansion, IsRead, behind_statement, behind_prepare, behind_decide, behind_finish, no_value, is_refused, is_commit, is_begun, is_archived, one, alone, is_alone, statement, step_from, goes_on, first_step, commit_behind, commit, session, read_of, file, archive, backup_from, backup_behind, backup, crash_both, system};
+ghost use Rattle.dl_base.specs.Answers.{is_committed, is_refused};
+ghost use Rattle.meaning_script.specs.Expansion.{meant, expansion, IsRead, behind_statement, behind_prepare, behind_decide, behind_finish, no_value, is_begun, is_archived, one, alone, is_alone, statement, step_from, goes_on, first_step, commit_behind, commit, session, read_of, file, archive, backup_from, backup_behind, backup, crash_both, system};
 
 use dl_base::{
     Answer, FileCmd, FileWhat, LinkNo, List, Memory, Name, Path, Phase, Refusal, Step, Stmt, Text,
@@ -55,8 +56,8 @@ fn is_refused(answer: &Answer) -> bool
     matches!(answer, Answer::Refused(_))
 }
 
-fn is_commit(answer: &Answer) -> bool
-    ensures { result ≡ is_commit answer.now }
+fn is_committed(answer: &Answer) -> bool
+    ensures { result ≡ is_committed answer.now }
 {
     matches!(answer, Answer::Committed(_))
 }
@@ -170,7 +171,7 @@ fn behind_decide<'a>(number: u32, prepared: &Answer, decided: &Answer) -> Next<'
     if is_refused(decided) {
         return Next::Given(3);
     }
-    if is_commit(decided) {
+    if is_committed(decided) {
         return Next::Do(Step::Finish(number));
     }
     Next::Given(1)
@@ -247,9 +248,9 @@ fn goes_on<'a>(step: Option<Step>, answers: &[Answer]) -> Next<'a>
 
 // The number, from 0, of the first answer that tells a commit.
 fn commit_in(answers: &[Answer]) -> Option<usize>
-    ensures { result ≡ position is_commit answers.now }
+    ensures { result ≡ position is_committed answers.now }
 {
-    answers.iter().position(|a| is_commit(a))
+    answers.iter().position(|a| is_committed(a))
 }
 
 #[tactic(auto, unfolding(meaning_script::specs::Expansion::file))]

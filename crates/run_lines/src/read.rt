@@ -1,7 +1,7 @@
 // What a line is read as.
-ghost use Rattle.std.specs.Prelude.{◌≡◌, ◌≤◌, ◌+◌, ℕ, List, length, IfOk, Err};
+ghost use Rattle.std.specs.Prelude.{◌≡◌, ◌≤◌, ◌+◌, ℕ, List, length, IfOk, OnErr, Err};
 ghost use Rattle.dl_base.specs.Limits.{most_line_bytes};
-ghost use Rattle.run_lines.specs.Reading.{Reads, IsFilled, IsStatement, Shows};
+ghost use Rattle.run_lines.specs.Reading.{Reads, IsStatement, Shows};
 ghost use Rattle.sql_syntax.specs.Parsing.{Parses};
 ghost use Rattle.meaning_script.specs.Expansion.{IsRead};
 ghost use Rattle.meaning_script.specs.declared.kind.Line.{Line as Meant};
@@ -45,6 +45,7 @@ fn no_statement(fault: ParseFault, before: usize, text: &[u8]) -> Result<Line, M
     requires fault { Parses text.now (Err fault) }
     ensures shown { (name : List ℕ) → IfOk result (Shows name before (Err fault)) }
     ensures placed { IfOk result IsRead }
+    ensures memory { OnErr result (fault ≡ ParseFault.Memory) }
 {
     match fault {
         ParseFault::BadChar(place) => Ok(Line::Bad(Refusal::BadLine(place + before as u64))),

@@ -2,7 +2,8 @@
 ghost use Rattle.std.specs.Prelude.{◌≡◌, ◌<◌, ◌==◌, ◌∷◌, length};
 ghost use Rattle.std.specs.Str.Lines.{lines, strip_carriage_return};
 ghost use Rattle.std.specs.List.{list_all, position};
-ghost use Rattle.meaning_script.specs.Lines.{is_blank, is_quiet};
+ghost use Rattle.dl_base.specs.Blank.{is_blank};
+ghost use Rattle.meaning_script.specs.Lines.{is_quiet};
 
 /// The first line of what is left of a script, without its newline and a carriage return just before that, and what
 /// stands behind it.

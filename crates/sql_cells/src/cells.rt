@@ -1,5 +1,5 @@
 // What is put into the cells of a row.
-ghost use Rattle.std.specs.Prelude.{◌≡◌, ◌≤◌, [], IfOk, Ok, length, suc};
+ghost use Rattle.std.specs.Prelude.{◌≡◌, ◌≢◌, ◌≤◌, [], Err, IfOk, Ok, length};
 ghost use Rattle.dl_base.specs.Limits.{link_numbers};
 ghost use Rattle.meaning_sql.specs.Faults.{Computes};
 ghost use Rattle.meaning_sql.specs.Values as values_meant;
@@ -143,6 +143,7 @@ fn stored_link(tx: u64, k: u32, kind: Kind, old: &Value, link: Dl) -> Result<Put
     requires { k ≤ link_numbers }
     ensures put { Computes (λ p. (p.value, p.next)) result (meant.stored_link tx k kind old.now link) }
     ensures few { IfOk result (λ p. p.next ≤ link_numbers) }
+    ensures never { result ≢ Err SqlFault.Memory }
 {
     match kind {
         Kind::Linked(_) => {
@@ -163,6 +164,7 @@ fn numbered(tx: u64, k: u32, link: Dl, own: Option<LinkNo>) -> Result<Put, SqlFa
     requires { k ≤ link_numbers }
     ensures put { Computes (λ p. (p.value, p.next)) result (meant.numbered tx k link own) }
     ensures few { IfOk result (λ p. p.next ≤ link_numbers) }
+    ensures never { result ≢ Err SqlFault.Memory }
 {
     if own.is_some() {
         return Ok(Put {

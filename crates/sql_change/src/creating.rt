@@ -1,9 +1,10 @@
 // The columns that CREATE TABLE makes.
-ghost use Rattle.std.specs.Prelude.{◌≡◌, ◌||◌, [], false, bytes_eq, nat_lt, IfOk};
+ghost use Rattle.std.specs.Prelude.{◌≡◌, ◌≢◌, ◌||◌, [], Err, false, bytes_eq, nat_lt, IfOk};
 ghost use Rattle.std.specs.List.{list_any};
 ghost use Rattle.meaning_sql.specs.Faults.{Computes};
 ghost use Rattle.meaning_statements.specs.Creating as meant;
 
+use dl_base::limits::MOST_VARCHAR_BYTES;
 use dl_base::{
     Column, ColumnDef, ColumnRule, Integrity, Kind, KindDef, List, Memory, Name, OnUnlink, Options,
     ReadBy, SqlFault, WriteBy,
@@ -105,7 +106,7 @@ fn kind_made(name: &Name, def: KindDef) -> Result<Kind, SqlFault>
 fn text_kind(name: &Name, length: i64) -> Result<Kind, SqlFault>
     ensures { Computes (λ k. k) result (meant.text_kind name.now length) }
 {
-    if 1 <= length && length <= 4000 {
+    if 1 <= length && length <= MOST_VARCHAR_BYTES as i64 {
         Ok(Kind::Text(length as u32))
     } else {
         Err(SqlFault::TooLong(name.copy()?))
@@ -114,7 +115,8 @@ fn text_kind(name: &Name, length: i64) -> Result<Kind, SqlFault>
 
 // INTEGRITY ALL and one of the seven rows.
 fn controlled(integrity: Integrity, options: Options) -> Result<Kind, SqlFault>
-    ensures { Computes (λ k. k) result (meant.controlled integrity options) }
+    ensures made { Computes (λ k. k) result (meant.controlled integrity options) }
+    ensures never { result ≢ Err SqlFault.Memory }
 {
     if is_all(integrity) && is_option_row(&options) {
         Ok(Kind::Linked(options))

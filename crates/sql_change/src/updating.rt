@@ -1,5 +1,5 @@
 // A table after an UPDATE, and what a DELETE leaves of one.
-ghost use Rattle.std.specs.Prelude.{◌≡◌, ◌≤◌, IfOk, Ok, false, length, suc, true, ℕ};
+ghost use Rattle.std.specs.Prelude.{◌≡◌, ◌≤◌, IfOk, Ok, false, length, true, ℕ};
 ghost use Rattle.dl_base.specs.Limits.{link_numbers};
 ghost use Rattle.meaning_sql.specs.Faults.{Computes};
 ghost use Rattle.meaning_statements.specs.Changing.{keys_hold};
@@ -7,7 +7,7 @@ ghost use Rattle.meaning_statements.specs.Sources as sources_meant;
 ghost use Rattle.meaning_tables.specs.Fits.{table_fits};
 ghost use Rattle.sql_rows.specs.Beside.{RowsAgreeBeside};
 ghost use Rattle.sql_rows.specs.Remaining.{remainder_of};
-ghost use Rattle.sql_rows.specs.Touching.{Touches};
+ghost use Rattle.sql_rows.specs.Touching.{KeepsOthers};
 ghost use Rattle.sql_change.specs.Parts as parts;
 
 use crate::changing::Outcome;
@@ -120,7 +120,7 @@ fn keys_differ(table: &Table, made: &Updated, keyed: bool) -> bool
     requires unset { keyed ≡ false → keys_hold made.now.table ≡ Ok true }
     requires fits { table_fits table.now ≡ true }
     requires others { made.now.table ≡ record table.now { rows = made.now.table.rows } }
-    requires touched { Touches made.now.touched table.now.rows made.now.table.rows }
+    requires touched { KeepsOthers made.now.touched table.now.rows made.now.table.rows }
     ensures { result ≡ true → keys_hold made.now.table ≡ Ok true }
 {
     if !keyed {

@@ -2,6 +2,7 @@ pub mod Combining
 pub mod Equations
 pub mod Gathering
 pub mod Placing
+pub mod Refusals
 pub mod Steps
 pub mod Trees
 pub mod TypeEquations

@@ -1,7 +1,7 @@
 // The type of an expression, or the first breach.
-ghost use Rattle.std.specs.Prelude.{◌≡◌, ◌&&◌, is_err, true, OnErr};
+ghost use Rattle.std.specs.Prelude.{◌≡◌, ◌&&◌, Err, is_err, true, OnErr};
 ghost use Rattle.meaning_sql.specs.Faults as faults;
-ghost use Rattle.meaning_sql.specs.Faults.{Computes, Follows, and_then};
+ghost use Rattle.meaning_sql.specs.Faults.{Computes, ComputesAfter, and_then};
 ghost use Rattle.meaning_sql.specs.Types.{type_of};
 ghost use Rattle.meaning_sql.specs.Types as meaning;
 ghost use Rattle.sql_expr.specs.Operands.{RefusesAs, suits};
@@ -85,8 +85,9 @@ fn one_operand(
     wanted: Operand,
     gives: SqlType,
 ) -> Result<SqlType, SqlFault>
-    ensures of_type { Follows operand (λ t. faults.typed (suits wanted t) gives) result }
+    ensures of_type { ComputesAfter operand (λ t. faults.typed (suits wanted t) gives) result }
     ensures accepted { RefusesAs operand (λ t. faults.typed (suits wanted t) gives) result }
+    ensures memory { result ≡ Err SqlFault.Memory → operand ≡ Err SqlFault.Memory }
 {
     match operand {
         Ok(t) => typed(suits(wanted, t), gives),
@@ -102,6 +103,7 @@ fn two_operands(
 ) -> Result<SqlType, SqlFault>
     ensures of_type { (m n : _) → Computes (λ t. t) left m → Computes (λ u. u) right n → Computes (λ t. t) result (and_then m (λ t. and_then n (meaning.binary_type op t))) }
     ensures accepted { (m n : _) → Computes (λ t. t) left m → Computes (λ u. u) right n → OnErr left (is_err m ≡ true) → OnErr right (is_err n ≡ true) → OnErr result (is_err (and_then m (λ t. and_then n (meaning.binary_type op t))) ≡ true) }
+    ensures memory { result ≡ Err SqlFault.Memory → and_then left (λ _t. right) ≡ Err SqlFault.Memory }
 {
     match left {
         Ok(t) => match right {
@@ -119,6 +121,7 @@ fn two_operands(
 fn folded(stands: bool, fold: Fold, operand: Result<SqlType, SqlFault>) -> Result<SqlType, SqlFault>
     ensures of_type { (m : _) → Computes (λ t. t) operand m → Computes (λ t. t) result (and_then (faults.typed stands AggregateScope.Row) (λ _r. and_then m (meaning.aggregate_type fold))) }
     ensures accepted { (m : _) → Computes (λ t. t) operand m → OnErr operand (is_err m ≡ true) → OnErr result (is_err (and_then (faults.typed stands AggregateScope.Row) (λ _r. and_then m (meaning.aggregate_type fold))) ≡ true) }
+    ensures memory { result ≡ Err SqlFault.Memory → and_then (faults.typed stands AggregateScope.Row) (λ _r. operand) ≡ Err SqlFault.Memory }
 {
     if stands {
         match operand {
@@ -140,6 +143,7 @@ fn texts(
 ) -> Result<SqlType, SqlFault>
     ensures of_type { (m n o : _) → Computes (λ t. t) location m → Computes (λ u. u) linktype n → Computes (λ v. v) comment o → Computes (λ t. t) result (and_then m (λ t. and_then n (λ u. and_then o (λ v. faults.typed (meaning.is_text t && meaning.is_text u && meaning.is_text v) SqlType.Link)))) }
     ensures accepted { (m n o : _) → Computes (λ t. t) location m → Computes (λ u. u) linktype n → Computes (λ v. v) comment o → OnErr location (is_err m ≡ true) → OnErr linktype (is_err n ≡ true) → OnErr comment (is_err o ≡ true) → OnErr result (is_err (and_then m (λ t. and_then n (λ u. and_then o (λ v. faults.typed (meaning.is_text t && meaning.is_text u && meaning.is_text v) SqlType.Link)))) ≡ true) }
+    ensures memory { result ≡ Err SqlFault.Memory → and_then location (λ _t. and_then linktype (λ _u. comment)) ≡ Err SqlFault.Memory }
 {
     match location {
         Ok(t) => match linktype {

@@ -1,5 +1,5 @@
 // The value of a tree at a row. Cells and constants are looked at where they stand.
-ghost use Rattle.std.specs.Prelude.{◌≡◌, [], IfOk, Ok};
+ghost use Rattle.std.specs.Prelude.{◌≡◌, [], Err, IfOk, Ok};
 ghost use Rattle.meaning_sql.specs.Conditions as conditions_meant;
 ghost use Rattle.meaning_sql.specs.Datalinks as links_meant;
 ghost use Rattle.meaning_sql.specs.Faults.{Computes, and_then};
@@ -210,8 +210,10 @@ fn unary<'a>(
     }
 }
 
+#[tactic(auto, using(crate::proofs::Refusals::of_binary))]
 fn after<'a>(op: Op, x: Seen<'a>, y: Result<Seen<'a>, SqlFault>) -> Result<Seen<'a>, SqlFault>
-    ensures { FollowsSeen y.entry (λ b. meant.binary op (seen x.entry) (Ok b)) result }
+    ensures value { FollowsSeen y.entry (λ b. meant.binary op (seen x.entry) (Ok b)) result }
+    ensures memory { result ≡ Err SqlFault.Memory → y.entry ≡ Err SqlFault.Memory }
 {
     match y {
         Ok(y) => {

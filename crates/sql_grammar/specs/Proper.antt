@@ -2,7 +2,7 @@
 use Rattle.std.specs.Prelude.{◌≡◌, ℕ, List, [], ◌∷◌, Option, Some, None, if◌then◌else◌, get_or}
 use Rattle.sql_lex.specs.declared.lexeme.LexKind.{LexKind}
 use Rattle.sql_lex.specs.declared.lexeme.LexKind.TheVariants as lexeme
-use Rattle.sql_lex.specs.Joined.{IsSpelled}
+use Rattle.sql_lex.specs.Spelling.{IsSpelled}
 use Rattle.sql_grammar.specs.declared.symbol.Symbol.{Symbol}
 use Rattle.sql_grammar.specs.declared.symbol.Symbol.TheVariants as symbol
 use Rattle.sql_grammar.specs.declared.terminal.Terminal.{Terminal}

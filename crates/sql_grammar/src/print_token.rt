@@ -2,7 +2,7 @@ use crate::{LinkWord, Symbol};
 use dl_base::{Fold, Name, Part, Text};
 
 /// A function, whose name is a name like others where no parenthesis follows it.
-#[derive(Clone, Copy, PartialEq, Eq)]
+#[derive(Clone, Copy)]
 pub enum Function {
     Count,
     Aggregate(Fold),

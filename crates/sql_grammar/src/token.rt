@@ -1,7 +1,7 @@
 use crate::Symbol;
 
 /// A word of the link options, which is a name elsewhere.
-#[derive(Clone, Copy, PartialEq, Eq)]
+#[derive(Clone, Copy)]
 pub enum LinkWord {
     Linktype,
     Url,
@@ -29,7 +29,7 @@ pub enum LinkWord {
 }
 
 /// What the grammar writes between its parts.
-#[derive(Clone, Copy, PartialEq, Eq)]
+#[derive(Clone, Copy)]
 pub enum Token {
     Symbol(Symbol),
     Word(LinkWord),

@@ -6,7 +6,8 @@ use Rattle.std.proofs.lemmas.List.{drop_at, append-nil}
 use Rattle.sql_lex.specs.declared.lexeme.LexKind.{LexKind}
 use Rattle.sql_lex.specs.declared.lexeme.LexKind.TheVariants.{Word, Number, Literal, Sign}
 use Rattle.sql_lex.specs.declared.lexeme.Lexeme.{Lexeme}
-use Rattle.sql_lex.specs.Spelling.{is_blank, begins, Spells, signs, IsFront}
+use Rattle.dl_base.specs.Blank.{is_blank}
+use Rattle.sql_lex.specs.Spelling.{begins, Spells, signs, IsFront}
 use Rattle.sql_lex.specs.Scan.{Front, front, with_lexeme, place_front, scan}
 use Rattle.sql_lex.specs.Lexes.{LexesTo, Blanks, Lexes, NoFront, BadByte, IsBad}
 use Rattle.sql_lex.proofs.Bools.{cond_true, cond_false, and_left, and_right}

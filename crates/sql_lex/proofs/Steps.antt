@@ -4,7 +4,7 @@ use Rattle.std.proofs.lemmas.List.{at_drop_more, at_drop_all, append-nil, drop-d
 use Rattle.std.proofs.Math.Seq.{take-length}
 use Rattle.sql_lex.specs.declared.lexeme.LexKind.{LexKind}
 use Rattle.sql_lex.specs.declared.lexeme.Lexeme.{Lexeme}
-use Rattle.sql_lex.specs.Spelling.{is_blank}
+use Rattle.dl_base.specs.Blank.{is_blank}
 use Rattle.sql_lex.specs.Scan.{Front, front, with_lexeme, place_front, scan}
 use Rattle.sql_lex.proofs.Scans.{scan_skip, behind, one_behind}
 

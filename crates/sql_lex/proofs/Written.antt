@@ -14,9 +14,9 @@ use Rattle.dl_base.specs.Name.{IsName, is_name_byte}
 use Rattle.sql_lex.specs.declared.lexeme.LexKind.{LexKind}
 use Rattle.sql_lex.specs.declared.lexeme.LexKind.TheVariants.{Word, Number, Literal, Sign}
 use Rattle.sql_lex.specs.declared.lexeme.Lexeme.{Lexeme}
-use Rattle.sql_lex.specs.Spelling.{begins, signs, Spells}
+use Rattle.sql_lex.specs.Spelling.{IsSpelled, begins, signs, Spells}
 use Rattle.sql_lex.specs.Lexes.{Lexes}
-use Rattle.sql_lex.specs.Joined.{IsSpelled, written}
+use Rattle.sql_lex.specs.Joined.{written}
 use Rattle.sql_lex.proofs.Bools.{and_left, and_right}
 use Rattle.sql_lex.proofs.Words.{is_name, name_is, folded_name}
 

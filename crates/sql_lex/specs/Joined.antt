@@ -7,10 +7,6 @@ use Rattle.sql_lex.specs.declared.lexeme.Lexeme.{Lexeme}
 use Rattle.sql_lex.specs.Spelling.{quoted, signs, Spells}
 use Rattle.sql_lex.specs.Lexes.{Lexes}
 
--- some bytes spell the lexeme
-abbrev pub IsSpelled : LexKind → Type 0
-IsSpelled kind = (body : List ℕ) × Spells kind body
-
 -- how a lexeme is written
 abbrev pub written : LexKind → List ℕ
 written (Word w) = w

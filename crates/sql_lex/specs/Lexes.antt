@@ -5,7 +5,8 @@ use Rattle.sql_lex.specs.declared.lexeme.LexKind.{LexKind}
 use Rattle.sql_lex.specs.declared.lexeme.Lexeme.{Lexeme}
 use Rattle.sql_lex.specs.declared.lexeme.LexFault.{LexFault}
 use Rattle.sql_lex.specs.declared.lexeme.LexFault.TheVariants.{BadChar, Memory}
-use Rattle.sql_lex.specs.Spelling.{is_blank, IsFront}
+use Rattle.dl_base.specs.Blank.{is_blank}
+use Rattle.sql_lex.specs.Spelling.{IsFront}
 
 -- The bytes from a place on are these lexemes, each the longest where it begins, with blanks before it; and then follows what `Last` says.
 abbrev pub LexesTo : (ℕ → List ℕ → Type 0) → ℕ → List ℕ → List Lexeme → Type 0

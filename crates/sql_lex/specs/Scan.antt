@@ -6,7 +6,8 @@ use Rattle.dl_base.specs.Name.{is_name_byte}
 use Rattle.sql_lex.specs.declared.lexeme.LexKind.{LexKind}
 use Rattle.sql_lex.specs.declared.lexeme.LexKind.TheVariants.{Word, Number, Literal, Sign}
 use Rattle.sql_lex.specs.declared.lexeme.Lexeme.{Lexeme}
-use Rattle.sql_lex.specs.Spelling.{is_blank, is_literal_byte, begins, most_word_bytes, number_bound}
+use Rattle.dl_base.specs.Blank.{is_blank}
+use Rattle.sql_lex.specs.Spelling.{is_literal_byte, begins, most_word_bytes, number_bound}
 
 -- a lexeme and its length
 abbrev pub Front : Type 0

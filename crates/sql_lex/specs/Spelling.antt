@@ -7,10 +7,6 @@ use Rattle.dl_base.specs.Name.{IsName, is_name_byte}
 use Rattle.sql_lex.specs.declared.lexeme.LexKind.{LexKind}
 use Rattle.sql_lex.specs.declared.lexeme.LexKind.TheVariants.{Word, Number, Literal, Sign}
 
--- space and tab
-abbrev pub is_blank : ℕ → Bool
-is_blank b = b == 32 || b == 9
-
 -- what stands in a literal
 abbrev pub is_literal_byte : ℕ → Bool
 is_literal_byte b = nat_le 32 b && not (b == 127)
@@ -58,3 +54,7 @@ goes_on (Sign k) b = (k == 11 && (b == 61 || b == 62)) || (k == 13 && b == 61)
 -- the longest lexeme at the front of body ++ rest is body
 abbrev pub IsFront : LexKind → List ℕ → List ℕ → Type 0
 IsFront kind body rest = Spells kind body × (begins (goes_on kind) rest ≡ false)
+
+-- some bytes spell the lexeme
+abbrev pub IsSpelled : LexKind → Type 0
+IsSpelled kind = (body : List ℕ) × Spells kind body

@@ -5,9 +5,9 @@ ghost use Rattle.std.specs.Char.{to_ascii_uppercase};
 ghost use Rattle.sql_lex.specs.declared.lexeme.LexKind as kinds;
 ghost use Rattle.sql_lex.specs.declared.lexeme.LexKind.TheVariants as kind;
 ghost use Rattle.sql_lex.specs.declared.lexeme.Lexeme as placed;
-ghost use Rattle.sql_lex.specs.Spelling.{Spells, IsFront};
+ghost use Rattle.sql_lex.specs.Spelling.{IsSpelled, Spells, IsFront};
 ghost use Rattle.sql_lex.specs.Lexes.{Lexes, IsBad};
-ghost use Rattle.sql_lex.specs.Joined.{IsSpelled, written, Piece, joined, ArePieces, LexesAs};
+ghost use Rattle.sql_lex.specs.Joined.{written, Piece, joined, ArePieces, LexesAs};
 
 /// A text either is lexemes or has a first byte that begins none, and either in one way.
 pub fn one_answer()

@@ -6,7 +6,7 @@ use dl_base::{Memory, Name, Text};
 use thiserror::Error;
 
 /// What a lexeme is.
-#[derive(Debug, Drop)]
+#[derive(Drop)]
 pub enum LexKind {
     /// A word, folded to lower case.
     Word(Name),
@@ -18,7 +18,7 @@ pub enum LexKind {
 }
 
 /// A lexeme and where it stands in its text: the place of its first byte, counted from 1, and the place behind its last.
-#[derive(Debug, Drop)]
+#[derive(Drop)]
 pub struct Lexeme {
     pub kind: LexKind,
     pub begin: u64,

@@ -1,7 +1,7 @@
 // The lexemes of a text.
 ghost use Rattle.std.specs.Prelude.{◌≡◌, List, IfOk, ℕ, Ok, Err};
 ghost use Rattle.sql_lex.specs.declared.lexeme.Lexeme as placed;
-ghost use Rattle.sql_lex.specs.Spelling.{is_blank};
+ghost use Rattle.dl_base.specs.Blank.{is_blank};
 ghost use Rattle.sql_lex.specs.Scan.{scan};
 ghost use Rattle.sql_lex.specs.Lexes.{Lexes, IsBad, AnswersLexing, IfBadChar};
 

@@ -1,5 +1,5 @@
 // Values of expressions, looked at where they stand: a cell or a constant is copied only if it is kept.
-ghost use Rattle.std.specs.Prelude.{◌≡◌, IfOk};
+ghost use Rattle.std.specs.Prelude.{◌≡◌, Err, IfOk};
 ghost use Rattle.sql_operators.specs.Seeing.{IsSeen, seen};
 
 use dl_base::{Copied, Memory, SqlFault, Value};
@@ -37,7 +37,8 @@ impl<'a> Seen<'a> {
 
 /// What a call made, as a value of an expression; its refusal is handed on.
 pub fn made<'a>(value: Result<Value, SqlFault>) -> Result<Seen<'a>, SqlFault>
-    ensures { IsSeen value result }
+    ensures value { IsSeen value result }
+    ensures memory { result ≡ Err SqlFault.Memory → value ≡ Err SqlFault.Memory }
 {
     match value {
         Ok(value) => Ok(Seen::Made(value)),

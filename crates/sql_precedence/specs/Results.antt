@@ -11,3 +11,9 @@ FailsReading refused.Memory read = Unit {0}
 abbrev pub AnswersReading : {X : Type 0} → Result X Refused → Result X ℕ → Type 0
 AnswersReading (Ok x) read = read ≡ Ok x
 AnswersReading (Err e) read = FailsReading e read
+
+-- what a function that takes no memory returned is what reading gives
+abbrev pub SettlesReading : {X : Type 0} → Result X Refused → Result X ℕ → Type 0
+SettlesReading (Ok x) read = read ≡ Ok x
+SettlesReading (Err (refused.Syntax k)) read = read ≡ Err k
+SettlesReading (Err refused.Memory) read = ⊥

@@ -2,7 +2,7 @@
 //!
 //! Where an expression ends, `drop` is written: what would be let go without a word is proved variant by variant at each such place.
 
-ghost use Rattle.std.specs.Prelude.{◌≡◌, ◌∷◌, ◌<◌, ◌&&◌, ℕ, suc, nat_lt, if◌then◌else◌, length, drop, IfOk, IsSome, None, Some};
+ghost use Rattle.std.specs.Prelude.{◌≡◌, ◌∷◌, ◌<◌, ◌&&◌, ℕ, suc, nat_lt, if◌then◌else◌, length, drop, IfOk, IsOkAnd, IsSome, None, Some};
 ghost use Rattle.std.specs.Option.{option_map};
 ghost use Rattle.dl_base.specs.declared.statement.Expr.{Expr};
 ghost use Rattle.dl_base.specs.declared.statement.Expr as expr;
@@ -178,7 +178,7 @@ fn reduce(alloc: Global, frames: &mut Vec<Frame>, low: u8, last: Expr) -> Result
 
 // What is still open is let go.
 fn give_up(stack: Stack) -> Result<Step, Memory>
-    ensures { IfOk result (λ s. move_of s ≡ machine.Refuse) }
+    ensures { IsOkAnd result (λ s. move_of s ≡ machine.Refuse) }
 {
     drop(stack);
     Ok(Step::Refuse)
@@ -186,7 +186,7 @@ fn give_up(stack: Stack) -> Result<Step, Memory>
 
 // What is still open and the operand behind it are let go.
 fn refuse(stack: Stack, last: Expr) -> Result<Step, Memory>
-    ensures { IfOk result (λ s. move_of s ≡ machine.Refuse) }
+    ensures { IsOkAnd result (λ s. move_of s ≡ machine.Refuse) }
 {
     drop(last);
     give_up(stack)
@@ -194,7 +194,7 @@ fn refuse(stack: Stack, last: Expr) -> Result<Step, Memory>
 
 // A fourth argument of DLVALUE.
 fn fourth(stack: Stack, first: Expr, second: Expr, third: Expr) -> Result<Step, Memory>
-    ensures { IfOk result (λ s. move_of s ≡ machine.Refuse) }
+    ensures { IsOkAnd result (λ s. move_of s ≡ machine.Refuse) }
 {
     drop(first);
     drop(second);
@@ -519,7 +519,7 @@ fn column(table: Option<Name>, column: Name) -> Expr
 
 // COUNT and its parenthesis.
 fn open_count(mut stack: Stack) -> Result<Step, Memory>
-    ensures { IfOk result (λ s. move_of s
+    ensures { IsOkAnd result (λ s. move_of s
         ≡ (if nat_lt stack.operators most_operators && nat_lt stack.parentheses most_open then Go (machine.star_due (stack_of stack.frames.items) (suc stack.operators) stack.parentheses) else machine.Refuse)) }
 {
     if stack.operators < MAX_OPERATORS && stack.parentheses < MAX_OPEN {
@@ -616,7 +616,7 @@ fn answer(
 
 // A terminal behind COUNT and its parenthesis, or behind its `*`.
 fn count(stack: Stack, star: bool, terminal: &Terminal) -> Result<Step, Memory>
-    ensures { IfOk result (λ s. move_of s
+    ensures { IsOkAnd result (λ s. move_of s
         ≡ move (counting star (stack_of stack.frames.items) stack.operators stack.parentheses) (cue terminal.now)) }
 {
     match terminal {

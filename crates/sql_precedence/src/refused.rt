@@ -5,7 +5,7 @@ ghost use Rattle.sql_precedence.specs.declared.refused.Refused.TheVariants as re
 use dl_base::Memory;
 
 /// Why there is nothing at a place.
-#[derive(Debug, Drop)]
+#[derive(Drop)]
 pub enum Refused {
     /// The place of the terminal that is refused, from 0, or one past the last.
     Syntax(usize),

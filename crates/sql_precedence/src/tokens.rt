@@ -5,7 +5,7 @@ ghost use Rattle.sql_grammar.specs.Readers.{is_token, token_at, one_at, maybe_on
 ghost use Rattle.sql_grammar.specs.declared.token.Token.TheVariants as token;
 ghost use Rattle.sql_grammar.specs.Statements.{name_of, number_of};
 ghost use Rattle.sql_grammar.specs.Reading.{name_at};
-ghost use Rattle.sql_precedence.specs.Results.{AnswersReading};
+ghost use Rattle.sql_precedence.specs.Results.{AnswersReading, SettlesReading};
 
 use crate::refused::Refused;
 use crate::word::same_bytes;
@@ -26,7 +26,7 @@ pub fn stands(terminals: &[Terminal], at: usize, symbol: Symbol) -> bool
 /// The place behind a symbol that has to stand there.
 #[tactic(auto, unfolding(sql_grammar::specs::Readers::token_at))]
 pub fn expect(terminals: &[Terminal], at: usize, symbol: Symbol) -> Result<usize, Refused>
-    ensures { AnswersReading result (token_at (token.Symbol symbol) terminals.now at) }
+    ensures { SettlesReading result (token_at (token.Symbol symbol) terminals.now at) }
 {
     if stands(terminals, at, symbol) {
         Ok(at + 1)
@@ -79,7 +79,7 @@ pub fn says(terminals: &[Terminal], at: usize, word: LinkWord) -> bool
 /// The place behind a word of link options that has to stand there.
 #[tactic(auto, unfolding(sql_grammar::specs::Readers::token_at))]
 pub fn expect_word(terminals: &[Terminal], at: usize, word: LinkWord) -> Result<usize, Refused>
-    ensures { AnswersReading result (token_at (token.Word word) terminals.now at) }
+    ensures { SettlesReading result (token_at (token.Word word) terminals.now at) }
 {
     if says(terminals, at, word) {
         Ok(at + 1)
@@ -110,7 +110,7 @@ pub fn maybe_name(terminals: &[Terminal], at: usize) -> Result<(Option<Name>, us
 
 /// The number at the place.
 pub fn number(terminals: &[Terminal], at: usize) -> Result<(i64, usize), Refused>
-    ensures { AnswersReading result (one_at number_of terminals.now at) }
+    ensures { SettlesReading result (one_at number_of terminals.now at) }
 {
     match terminals.get(at) {
         Some(Terminal::Number(n)) => Ok((*n, at + 1)),

@@ -7,10 +7,10 @@ use Rattle.dl_base.specs.declared.statement.Stmt.{Stmt}
 use Rattle.sql_lex.specs.declared.lexeme.LexKind.{LexKind}
 use Rattle.sql_lex.specs.declared.lexeme.LexKind.TheVariants as lexeme
 use Rattle.sql_lex.specs.declared.lexeme.Lexeme.{Lexeme}
-use Rattle.sql_lex.specs.Spelling.{Spells}
+use Rattle.sql_lex.specs.Spelling.{IsSpelled, Spells}
 use Rattle.sql_lex.specs.Lexes.{Lexes}
 use Rattle.sql_lex.specs.Joined as j
-use Rattle.sql_lex.specs.Joined.{IsSpelled, written, Piece, joined, ArePieces, LexesAs}
+use Rattle.sql_lex.specs.Joined.{written, Piece, joined, ArePieces, LexesAs}
 use Rattle.sql_grammar.specs.declared.symbol.Symbol.{Symbol}
 use Rattle.sql_grammar.specs.declared.symbol.Symbol.TheVariants as symbol
 use Rattle.sql_grammar.specs.declared.print_token.PrintToken.{PrintToken}

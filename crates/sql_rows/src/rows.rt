@@ -1,5 +1,5 @@
 // The rows that INSERT puts in, tables after UPDATE, and what DELETE leaves of tables.
-ghost use Rattle.std.specs.Prelude.{◌≡◌, ◌≤◌, ◌+◌, ◌∷◌, All, IfErr, IfOk, Ok, OnOk, [], length, map, suc, true};
+ghost use Rattle.std.specs.Prelude.{◌≡◌, ◌≤◌, ◌+◌, ◌∷◌, All, IfErr, IfOk, Ok, OnOk, [], length, map, true};
 ghost use Rattle.dl_base.specs.Limits.{link_numbers};
 ghost use Rattle.dl_base.specs.declared.sql_fault.SqlFault.TheVariants as faults;
 ghost use Rattle.meaning_sql.specs.Columns.{Columns as ColumnsOf};
@@ -15,7 +15,7 @@ ghost use Rattle.sql_rows.specs.Beside.{RowsAgreeBeside};
 ghost use Rattle.sql_rows.specs.NewRows.{tuple_rows};
 ghost use Rattle.sql_rows.specs.Remaining.{remainder_of};
 ghost use Rattle.sql_rows.specs.declared.rows.Remainder.TheVariants as remainders;
-ghost use Rattle.sql_rows.specs.Touching.{Touches};
+ghost use Rattle.sql_rows.specs.Touching.{KeepsOthers};
 
 use dl_base::{Column, Copied, Expr, List, Memory, Name, Row, SqlFault, Value};
 use sql_cells::{PutRow, stored_row};
@@ -455,7 +455,7 @@ pub fn update_rows(
     ensures put { Computes (λ u. (u.table.rows, (u.next, u.met))) result (meant.updated_rows all.now context.entry.now table.now.columns (option_list filter.now) places.now (map (λ s. s.1) sets.now) first table.now.rows) }
     ensures others { IfOk result (λ u. u.table ≡ record table.now { rows = u.table.rows }) }
     ensures few { IfOk result (λ u. u.next ≤ link_numbers) }
-    ensures touched { IfOk result (λ u. Touches u.touched table.now.rows u.table.rows) }
+    ensures touched { IfOk result (λ u. KeepsOthers u.touched table.now.rows u.table.rows) }
     ensures beside { IfOk result (λ u. RowsAgreeBeside u.numbers table.now.rows u.table.rows) }
     ensures told { IfOk result (λ u. length u.numbers ≡ u.met) }
 {
@@ -483,7 +483,7 @@ fn update_each(
     ensures put { Computes (λ u. (u.table.rows, (u.next, u.met))) result (meant.updated_rows all.now context.entry.now table.now.columns (option_list filter.now) places.now (map (λ s. s.1) sets.now) first table.now.rows) }
     ensures others { IfOk result (λ u. u.table ≡ record table.now { rows = u.table.rows }) }
     ensures few { IfOk result (λ u. u.next ≤ link_numbers) }
-    ensures touched { IfOk result (λ u. Touches u.touched table.now.rows u.table.rows) }
+    ensures touched { IfOk result (λ u. KeepsOthers u.touched table.now.rows u.table.rows) }
     ensures beside { IfOk result (λ u. RowsAgreeBeside u.numbers table.now.rows u.table.rows) }
     ensures told { IfOk result (λ u. length u.numbers ≡ u.met) }
 {
@@ -517,7 +517,7 @@ fn update_met(
     ensures put { Computes (λ u. (u.table.rows, (u.next, u.met))) result (meant.updated_rows filter.now.columns context.entry.now table.now.columns (option_list filter.now.condition) places.now (map (λ b. b.expr) rights.now) first table.now.rows) }
     ensures others { IfOk result (λ u. u.table ≡ record table.now { rows = u.table.rows }) }
     ensures few { IfOk result (λ u. u.next ≤ link_numbers) }
-    ensures touched { IfOk result (λ u. Touches u.touched table.now.rows u.table.rows) }
+    ensures touched { IfOk result (λ u. KeepsOthers u.touched table.now.rows u.table.rows) }
     ensures beside { IfOk result (λ u. RowsAgreeBeside u.numbers table.now.rows u.table.rows) }
     ensures told { IfOk result (λ u. length u.numbers ≡ u.met) }
 {
@@ -610,7 +610,7 @@ fn update_one(
     ensures put { Computes (λ u. (u.table.rows, (u.next, u.met))) result (meant.updated_rows all.now context.entry.now table.now.columns (option_list filter.now) places.now (map (λ s. s.1) sets.now) first table.now.rows) }
     ensures others { IfOk result (λ u. u.table ≡ record table.now { rows = u.table.rows }) }
     ensures few { IfOk result (λ u. u.next ≤ link_numbers) }
-    ensures touched { IfOk result (λ u. Touches u.touched table.now.rows u.table.rows) }
+    ensures touched { IfOk result (λ u. KeepsOthers u.touched table.now.rows u.table.rows) }
     ensures beside { IfOk result (λ u. RowsAgreeBeside u.numbers table.now.rows u.table.rows) }
     ensures told { IfOk result (λ u. length u.numbers ≡ u.met) }
 {
@@ -640,7 +640,7 @@ fn update_one(
 fn set_one(alloc: Global, table: &Table, number: u64, put: PutRow) -> Result<Updated, SqlFault>
     ensures table { IfOk result (λ u. u.table ≡ record table.now { rows = with_row table.now.rows number (record { values = put.values }) }) }
     ensures next { IfOk result (λ u. (u.next ≡ put.next) × (u.met ≡ 1)) }
-    ensures touched { IfOk result (λ u. Touches u.touched table.now.rows u.table.rows) }
+    ensures touched { IfOk result (λ u. KeepsOthers u.touched table.now.rows u.table.rows) }
     ensures beside { IfOk result (λ u. RowsAgreeBeside u.numbers table.now.rows u.table.rows) }
     ensures told { IfOk result (λ u. length u.numbers ≡ u.met) }
     ensures memory { IfErr result (λ e. e ≡ faults.Memory) }

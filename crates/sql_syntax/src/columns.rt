@@ -1,10 +1,10 @@
 // CREATE TABLE and DROP TABLE.
-ghost use Rattle.std.specs.Prelude.{◌≡◌, IfOk};
-ghost use Rattle.sql_grammar.specs.Readers.{token_at, listed_at, enclosed_at};
+ghost use Rattle.std.specs.Prelude.{◌≡◌, ◌≤◌, ◌^◌, IfOk, OnErr};
+ghost use Rattle.sql_grammar.specs.Readers.{token_at};
 ghost use Rattle.std.specs.List.{count_by};
 ghost use Rattle.sql_grammar.specs.Statements.{is_not_null, is_key};
 ghost use Rattle.sql_grammar.specs.Reading.{rule_at, integrity_at, read_at, write_at, yes_no_at, unlink_at, unlinking_at, recovery_at, writing_at, reading_at, choices_at, filed_at, control_at, datalink_at, kind_at, column_at, create_at, drop_at};
-ghost use Rattle.sql_precedence.specs.Results.{AnswersReading};
+ghost use Rattle.sql_precedence.specs.Results.{AnswersReading, SettlesReading};
 
 use crate::part::{commas, many};
 use dl_base::{
@@ -17,7 +17,7 @@ use std::alloc::Global;
 // ALL | SELECTIVE | NONE
 #[tactic(auto, unfolding(sql_grammar::specs::Reading::integrity_at, sql_grammar::specs::Readers::token_at))]
 fn integrity(terminals: &[Terminal], at: usize) -> Result<(Integrity, usize), Refused>
-    ensures { AnswersReading result (integrity_at terminals.now at) }
+    ensures { SettlesReading result (integrity_at terminals.now at) }
 {
     if says(terminals, at, LinkWord::All) {
         Ok((Integrity::All, at + 1))
@@ -32,7 +32,7 @@ fn integrity(terminals: &[Terminal], at: usize) -> Result<(Integrity, usize), Re
 // FS | DB
 #[tactic(auto, unfolding(sql_grammar::specs::Reading::read_at))]
 fn read(terminals: &[Terminal], at: usize) -> Result<(ReadBy, usize), Refused>
-    ensures { AnswersReading result (read_at terminals.now at) }
+    ensures { SettlesReading result (read_at terminals.now at) }
 {
     if says(terminals, at, LinkWord::Fs) {
         Ok((ReadBy::Fs, at + 1))
@@ -45,7 +45,7 @@ fn read(terminals: &[Terminal], at: usize) -> Result<(ReadBy, usize), Refused>
 // FS | BLOCKED | ADMIN
 #[tactic(auto, unfolding(sql_grammar::specs::Reading::write_at))]
 fn write(terminals: &[Terminal], at: usize) -> Result<(WriteBy, usize), Refused>
-    ensures { AnswersReading result (write_at terminals.now at) }
+    ensures { SettlesReading result (write_at terminals.now at) }
 {
     if says(terminals, at, LinkWord::Fs) {
         Ok((WriteBy::Fs, at + 1))
@@ -60,7 +60,7 @@ fn write(terminals: &[Terminal], at: usize) -> Result<(WriteBy, usize), Refused>
 // YES | NO
 #[tactic(auto, unfolding(sql_grammar::specs::Reading::yes_no_at))]
 fn yes_no(terminals: &[Terminal], at: usize) -> Result<(bool, usize), Refused>
-    ensures { AnswersReading result (yes_no_at terminals.now at) }
+    ensures { SettlesReading result (yes_no_at terminals.now at) }
 {
     if says(terminals, at, LinkWord::Yes) {
         Ok((true, at + 1))
@@ -73,7 +73,7 @@ fn yes_no(terminals: &[Terminal], at: usize) -> Result<(bool, usize), Refused>
 // RESTORE | DELETE | NONE
 #[tactic(auto, unfolding(sql_grammar::specs::Reading::unlink_at))]
 fn unlink(terminals: &[Terminal], at: usize) -> Result<(OnUnlink, usize), Refused>
-    ensures { AnswersReading result (unlink_at terminals.now at) }
+    ensures { SettlesReading result (unlink_at terminals.now at) }
 {
     if says(terminals, at, LinkWord::Restore) {
         Ok((OnUnlink::Restore, at + 1))
@@ -88,7 +88,7 @@ fn unlink(terminals: &[Terminal], at: usize) -> Result<(OnUnlink, usize), Refuse
 // [ON UNLINK (RESTORE | DELETE | NONE)]
 #[tactic(auto, unfolding(sql_grammar::specs::Reading::unlinking_at))]
 fn unlinking(terminals: &[Terminal], at: usize) -> Result<(OnUnlink, usize), Refused>
-    ensures { AnswersReading result (unlinking_at terminals.now at) }
+    ensures { SettlesReading result (unlinking_at terminals.now at) }
 {
     if stands(terminals, at, Symbol::On) {
         let at = expect_word(terminals, at + 1, LinkWord::Unlink)?;
@@ -101,7 +101,7 @@ fn unlinking(terminals: &[Terminal], at: usize) -> Result<(OnUnlink, usize), Ref
 // RECOVERY (YES | NO) [ON UNLINK ..]
 #[tactic(auto, unfolding(sql_grammar::specs::Reading::recovery_at))]
 fn recovery(terminals: &[Terminal], at: usize) -> Result<((bool, OnUnlink), usize), Refused>
-    ensures { AnswersReading result (recovery_at terminals.now at) }
+    ensures { SettlesReading result (recovery_at terminals.now at) }
 {
     let at = expect_word(terminals, at, LinkWord::Recovery)?;
     let (recovers, at) = yes_no(terminals, at)?;
@@ -115,7 +115,7 @@ fn writing(
     terminals: &[Terminal],
     at: usize,
 ) -> Result<((WriteBy, (bool, OnUnlink)), usize), Refused>
-    ensures { AnswersReading result (writing_at terminals.now at) }
+    ensures { SettlesReading result (writing_at terminals.now at) }
 {
     let at = expect_word(terminals, at, LinkWord::Write)?;
     let at = expect_word(terminals, at, LinkWord::Permission)?;
@@ -130,7 +130,7 @@ fn reading(
     terminals: &[Terminal],
     at: usize,
 ) -> Result<((ReadBy, (WriteBy, (bool, OnUnlink))), usize), Refused>
-    ensures { AnswersReading result (reading_at terminals.now at) }
+    ensures { SettlesReading result (reading_at terminals.now at) }
 {
     let at = expect_word(terminals, at, LinkWord::Read)?;
     let at = expect_word(terminals, at, LinkWord::Permission)?;
@@ -142,7 +142,7 @@ fn reading(
 // INTEGRITY (ALL | SELECTIVE | NONE) READ ..
 #[tactic(auto, unfolding(sql_grammar::specs::Reading::choices_at))]
 fn choices(terminals: &[Terminal], at: usize) -> Result<(KindDef, usize), Refused>
-    ensures { AnswersReading result (choices_at terminals.now at) }
+    ensures { SettlesReading result (choices_at terminals.now at) }
 {
     let at = expect_word(terminals, at, LinkWord::Integrity)?;
     let (integrity, at) = integrity(terminals, at)?;
@@ -156,7 +156,7 @@ fn choices(terminals: &[Terminal], at: usize) -> Result<(KindDef, usize), Refuse
 // MODE DB2OPTIONS | choices
 #[tactic(auto, unfolding(sql_grammar::specs::Reading::filed_at))]
 fn filed(terminals: &[Terminal], at: usize) -> Result<(KindDef, usize), Refused>
-    ensures { AnswersReading result (filed_at terminals.now at) }
+    ensures { SettlesReading result (filed_at terminals.now at) }
 {
     if says(terminals, at, LinkWord::Mode) {
         let at = expect_word(terminals, at + 1, LinkWord::Db2options)?;
@@ -169,7 +169,7 @@ fn filed(terminals: &[Terminal], at: usize) -> Result<(KindDef, usize), Refused>
 // [NO LINK CONTROL | FILE LINK CONTROL (MODE DB2OPTIONS | choices)]
 #[tactic(auto, unfolding(sql_grammar::specs::Reading::control_at))]
 fn control(terminals: &[Terminal], at: usize) -> Result<(KindDef, usize), Refused>
-    ensures { AnswersReading result (control_at terminals.now at) }
+    ensures { SettlesReading result (control_at terminals.now at) }
 {
     if says(terminals, at, LinkWord::No) {
         let at = expect_word(terminals, at + 1, LinkWord::Link)?;
@@ -187,7 +187,7 @@ fn control(terminals: &[Terminal], at: usize) -> Result<(KindDef, usize), Refuse
 // [LINKTYPE URL] [control]
 #[tactic(auto, unfolding(sql_grammar::specs::Reading::datalink_at))]
 fn datalink(terminals: &[Terminal], at: usize) -> Result<(KindDef, usize), Refused>
-    ensures { AnswersReading result (datalink_at terminals.now at) }
+    ensures { SettlesReading result (datalink_at terminals.now at) }
 {
     if says(terminals, at, LinkWord::Linktype) {
         let at = expect_word(terminals, at + 1, LinkWord::Url)?;
@@ -200,7 +200,7 @@ fn datalink(terminals: &[Terminal], at: usize) -> Result<(KindDef, usize), Refus
 // INTEGER | BIGINT | VARCHAR ( number ) | DATALINK ..
 #[tactic(auto, unfolding(sql_grammar::specs::Reading::kind_at))]
 fn kind(terminals: &[Terminal], at: usize) -> Result<(KindDef, usize), Refused>
-    ensures { AnswersReading result (kind_at terminals.now at) }
+    ensures { SettlesReading result (kind_at terminals.now at) }
 {
     if stands(terminals, at, Symbol::Integer) {
         Ok((KindDef::Integer, at + 1))
@@ -220,7 +220,7 @@ fn kind(terminals: &[Terminal], at: usize) -> Result<(KindDef, usize), Refused>
 // NOT NULL | PRIMARY KEY
 #[tactic(auto, unfolding(sql_grammar::specs::Reading::rule_at))]
 pub fn rule(terminals: &[Terminal], at: usize) -> Result<(ColumnRule, usize), Refused>
-    ensures { AnswersReading result (rule_at terminals.now at) }
+    ensures { SettlesReading result (rule_at terminals.now at) }
 {
     if stands(terminals, at, Symbol::Not) {
         let at = expect(terminals, at + 1, Symbol::Null)?;
@@ -234,7 +234,8 @@ pub fn rule(terminals: &[Terminal], at: usize) -> Result<(ColumnRule, usize), Re
 
 // How many rules are NOT NULL. Where they are more than a u32 counts, there is no memory for so long a text.
 fn not_nulls(rules: &[ColumnRule]) -> Result<u32, Memory>
-    ensures { IfOk result (λ n. n ≡ count_by is_not_null rules.now) }
+    ensures counts { IfOk result (λ n. n ≡ count_by is_not_null rules.now) }
+    ensures past { OnErr result (2 ^ 32 ≤ count_by is_not_null rules.now) }
 {
     let count = rules
         .iter()
@@ -245,7 +246,8 @@ fn not_nulls(rules: &[ColumnRule]) -> Result<u32, Memory>
 
 // How many rules are PRIMARY KEY, in the same way.
 fn keys(rules: &[ColumnRule]) -> Result<u32, Memory>
-    ensures { IfOk result (λ n. n ≡ count_by is_key rules.now) }
+    ensures counts { IfOk result (λ n. n ≡ count_by is_key rules.now) }
+    ensures past { OnErr result (2 ^ 32 ≤ count_by is_key rules.now) }
 {
     let count = rules
         .iter()

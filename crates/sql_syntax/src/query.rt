@@ -4,9 +4,9 @@ ghost use Rattle.std.specs.Prelude.{◌≡◌, ◌++◌, ◌∷◌, [], IfOk, On
 ghost use Rattle.sql_grammar.specs.declared.symbol.Symbol.TheVariants as symbol;
 ghost use Rattle.sql_grammar.specs.declared.token.Token.TheVariants as token;
 ghost use Rattle.sql_grammar.specs.Readers.{one_at, after_at, maybe_at, then_at, expression_at};
-ghost use Rattle.sql_grammar.specs.Statements.{key_of, conditions_of, Following};
+ghost use Rattle.sql_grammar.specs.Statements.{key_of, conditions_of};
 ghost use Rattle.sql_grammar.specs.Reading.{name_at, item_at, items_at, alias_at, source_at, join_at, joined_at, sources_at, ref_at, group_at, direction_at, key_at, order_at, filter_at, from_at, select_at};
-ghost use Rattle.sql_precedence.specs.Results.{AnswersReading};
+ghost use Rattle.sql_precedence.specs.Results.{AnswersReading, SettlesReading};
 
 use crate::changes::filter;
 use crate::part::{commas, many};
@@ -200,7 +200,7 @@ fn key_by(terminals: &[Terminal], at: usize) -> Result<(KeyBy, usize), Refused>
 // [ASC | DESC]
 #[tactic(auto, unfolding(sql_grammar::specs::Reading::direction_at))]
 fn direction(terminals: &[Terminal], at: usize) -> Result<(bool, usize), Refused>
-    ensures { AnswersReading result (direction_at terminals.now at) }
+    ensures { SettlesReading result (direction_at terminals.now at) }
 {
     if stands(terminals, at, Symbol::Asc) {
         Ok((false, at + 1))

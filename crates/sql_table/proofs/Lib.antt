@@ -4,8 +4,10 @@ pub mod First
 pub mod Kept
 pub mod Left
 pub mod Marking
+pub mod Named
 pub mod Names
 pub mod Numbers
+pub mod Ordered
 pub mod Placing
 pub mod Rising
 pub mod RowLinks

@@ -4,22 +4,22 @@ ghost use Rattle.std.specs.Borrow.{sem};
 ghost use Rattle.std.specs.Cmp.Lexicographic.{pointwise};
 ghost use Rattle.std.specs.List.{IsDistinct};
 ghost use Rattle.std.specs.Option.{option_copied, option_copied_mut, option_map};
-ghost use Rattle.indexmap.specs.IndexMap.{insert_entry};
 ghost use Rattle.meaning_tables.specs.First.{first_cell};
 ghost use Rattle.meaning_tables.specs.Tables.{Rows, table_of, with_table, without_table, without_row, new_table};
 ghost use Rattle.sql_table.specs.Lending.{LendsTable};
 
-use crate::Table;
+use crate::{RoomyTables, Table};
 use dl_base::{Column, Copied, LinkNo, List, Memory, Name, Same};
-use indexmap::IndexMap;
 use std::alloc::Global;
 use std::marker::Model;
 use std::mem;
 
 /// Tables by name. Contracts see the list of names and tables, in the order in which they were made.
+///
+/// A look-up is a binary search among the names in the order of their bytes.
 #[derive(Drop)]
 pub struct Tables {
-    entries: IndexMap<Name, Table>,
+    entries: RoomyTables,
 }
 
 impl Model for Tables {
@@ -27,7 +27,7 @@ impl Model for Tables {
 
     ghost Value = { Named };
 
-    ghost view = { λ t. t.entries.entries };
+    ghost view = { λ t. t.entries.tables };
 }
 
 impl Tables {
@@ -36,7 +36,7 @@ impl Tables {
         ensures { result ≡ [] }
     {
         Tables {
-            entries: IndexMap::new(alloc),
+            entries: RoomyTables::empty(alloc),
         }
     }
 
@@ -53,14 +53,15 @@ impl Tables {
         ensures value { option_map (λ t. (t.0.now, t.1.now)) result ≡ slice_get self.now index }
         ensures left { MatchOption result (drop index self.now ≡ []) (λ t. drop index self.now ≡ (t.0.now, t.1.now) ∷ drop (index + 1) self.now) }
     {
-        self.entries.get_index(index)
+        self.entries.at(index)
     }
 
-    /// The table of a name; None where no table has it. It takes no memory.
+    /// The table of a name; None where no table has it. It takes no memory. The cost grows with the logarithm of the number of
+    /// tables.
     pub fn table(&self, name: &Name) -> Option<&Table>
         ensures { option_copied result ≡ table_of self.now name.now }
     {
-        self.entries.get(name)
+        self.entries.table(name)
     }
 
     /// The table of a name, for writing; None where no table has it. The other tables stay. It takes no memory.
@@ -68,7 +69,7 @@ impl Tables {
         ensures* writes_back { sem 𝓛 (LendsTable self.entry name.now result) }
         ensures value { option_copied_mut result ≡ table_of self.old name.now }
     {
-        self.entries.get_mut(name)
+        self.entries.table_mut(name)
     }
 
     /// Puts a table in the place of that of a name, and gives that one back; None where no table has the name, and then nothing
@@ -109,9 +110,8 @@ impl Tables {
         ensures ok { OnOk result (self.new ≡ self.old ++ (name, new_table columns) ∷ []) }
         ensures err { OnErr result (self.new ≡ self.old) }
     {
-        let table = Table::made(*self.entries.allocator(), columns)?;
-        let _ = was_there(self.entries.insert(name, table)?);
-        Ok(())
+        let table = Table::made(self.entries.allocator(), columns)?;
+        self.entries.append(name, table)
     }
 
     /// Takes a table away; false exactly where no table has the name. It takes no memory.
@@ -119,14 +119,14 @@ impl Tables {
         ensures found { result ≡ is_some (table_of self.old name.now) }
         ensures after { self.new ≡ without_table self.old name.now }
     {
-        was_there(self.entries.shift_remove(name))
+        self.entries.remove(name)
     }
 
     /// The names, in order.
     pub fn names(&self) -> Result<List<Name>, Memory>
         ensures { IfOk result (λ made. made ≡ map (λ t. t.0) self.now) }
     {
-        let mut made = List::empty(*self.entries.allocator());
+        let mut made = List::empty(self.entries.allocator());
         for i in 0..self.len() {
             match self.at(i) {
                 Some((name, _)) => made.push(name.copy()?)?,
@@ -156,16 +156,16 @@ impl Tables {
         None
     }
 
-    // Their entries, and tables of entries. Neither takes memory.
-    pub(crate) fn into_entries(self) -> IndexMap<Name, Table>
-        ensures { result.entries ≡ self }
+    // The same with room for more, and back. Neither takes memory.
+    pub(crate) fn into_roomy(self) -> RoomyTables
+        ensures { result.tables ≡ self }
     {
         let Tables { entries } = self;
         entries
     }
 
-    pub(crate) fn of_entries(entries: IndexMap<Name, Table>) -> Tables
-        ensures { result ≡ entries.entries }
+    pub(crate) fn of_roomy(entries: RoomyTables) -> Tables
+        ensures { result ≡ entries.tables }
     {
         Tables { entries }
     }
@@ -174,36 +174,8 @@ impl Tables {
     pub fn copy(&self) -> Result<Tables, Memory>
         ensures { IfOk result (λ made. made ≡ self.now) }
     {
-        let mut entries = IndexMap::new(*self.entries.allocator());
-        for i in 0..self.len() {
-            match self.at(i) {
-                Some((name, table)) => put_copy(&mut entries, name, table)?,
-                None => {}
-            }
-        }
-        Ok(Tables { entries })
+        self.entries.copy()
     }
-}
-
-// Whether a table was there. It ends here, so that its drop is proved once and not in each function that a map gives one back to.
-pub(crate) fn was_there(table: Option<Table>) -> bool
-    ensures { result ≡ is_some table }
-{
-    let was = table.is_some();
-    drop(table);
-    was
-}
-
-// Puts a copy of a table under a copy of its name.
-pub(crate) fn put_copy(
-    entries: &mut IndexMap<Name, Table>,
-    name: &Name,
-    table: &Table,
-) -> Result<(), Memory>
-    ensures { OnOk result (entries.new.entries ≡ insert_entry (pointwise ◌==◌) entries.old.entries name.now table.now) }
-{
-    let _ = was_there(entries.insert(name.copy()?, table.copy()?)?);
-    Ok(())
 }
 
 impl Copied for Tables {

@@ -8,7 +8,7 @@ use Rattle.std.specs.List.{find}
 use Rattle.std.specs.Option.{option_map}
 use Rattle.std.specs.Ordering.{eq_by_cmp, is_lt, nat_cmp}
 use Rattle.bk_backup.specs.Images.{record_of}
-use Rattle.bk_backup.specs.Saved.{Saved, backup_write, with_backup}
+use Rattle.bk_backup.specs.Saved.{Saved, backup_write}
 use Rattle.bk_backup.specs.Saved as backups_area
 use Rattle.dl_areas.specs.Lists.{AreReady, Journals, Write, with_journal}
 use Rattle.dl_areas.specs.Writing.{Ends, EndsAlone}

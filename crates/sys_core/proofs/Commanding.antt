@@ -41,7 +41,8 @@ use Rattle.meaning_system.specs.Commands.{command_refusal, forbids}
 use Rattle.meaning_system.specs.Following.{AreRestored}
 use Rattle.meaning_system.specs.Machine.{by_refusal, step}
 use Rattle.meaning_system.specs.State.{State, Txn, is_active}
-use Rattle.meaning_system.specs.Writes.{file_writes, is_refused, when, writes}
+use Rattle.dl_base.specs.Answers.{is_refused}
+use Rattle.meaning_system.specs.Writes.{file_writes, when, writes}
 use Rattle.sys_core.specs.Guarded.{looked}
 use Rattle.sys_core.specs.Seated.{AreSeated, IsAtStage, IsSeat}
 use Rattle.sys_core.specs.Standing.{IsOf}

@@ -46,7 +46,8 @@ use Rattle.meaning_system.specs.Claims.{conflict}
 use Rattle.meaning_system.specs.Following.{AreMerged, IsMerged}
 use Rattle.meaning_system.specs.Machine.{by_conflict, committed, decide, merged_by, next_commit, on_session, on_txn, step, with_phase}
 use Rattle.meaning_system.specs.State.{State, Txn, ended, has_links, is_prepared, moved_of, tables_of, txn_of}
-use Rattle.meaning_system.specs.Writes.{aborted, decide_writes, is_committed, session_writes, txn_writes, when, writes}
+use Rattle.dl_base.specs.Answers.{is_committed}
+use Rattle.meaning_system.specs.Writes.{aborted, decide_writes, session_writes, txn_writes, when, writes}
 use Rattle.meaning_tables.specs.Tables.{Tables}
 use Rattle.sys_core.proofs.Behind.{EachLeads, behind-sound, behind-taken, no-decide}
 use Rattle.sys_core.proofs.Between.{between, committed-of, ended-of, let-go-own}

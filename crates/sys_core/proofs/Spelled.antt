@@ -32,7 +32,8 @@ use Rattle.meaning_settling.specs.Settling.{Moved}
 use Rattle.meaning_system.specs.Commands.{command_refusal}
 use Rattle.meaning_system.specs.Machine.{next_commit, step}
 use Rattle.meaning_system.specs.State.{State, Txn, has_links, moved_of}
-use Rattle.meaning_system.specs.Writes.{file_writes, is_refused, prepared, when, writes}
+use Rattle.dl_base.specs.Answers.{is_refused}
+use Rattle.meaning_system.specs.Writes.{file_writes, prepared, when, writes}
 use Rattle.sys_core.proofs.Commanding.{stepped}
 use Rattle.sys_core.proofs.Deciding.{commit-writes, conflict-writes}
 use Rattle.sys_core.proofs.RollingBack.{aborts}

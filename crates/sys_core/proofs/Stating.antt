@@ -3,7 +3,7 @@ use Rattle.std.proofs.Common.{◌≡◌, ◌≢◌, ⊎_elim, ℕ, ◌+◌, ◌�
 use Rattle.std.proofs.lemmas.Bool.{or_parts}
 use Rattle.std.specs.Cmp.Lexicographic.{pointwise}
 use Rattle.std.specs.FinMap as maps
-use Rattle.db_txn.specs.Transaction.{Transaction, after_evaluation, back_to, is_plain, is_refused, standing, undone_to}
+use Rattle.db_txn.specs.Transaction.{Transaction, after_evaluation, back_to, is_evaluated, is_refused, standing, undone_to}
 use Rattle.dl_base.specs.declared.answer.Answer.{Answer}
 use Rattle.dl_base.specs.declared.answer.Answer.TheVariants as answers
 use Rattle.dl_base.specs.declared.answer.Refusal.{Refusal}
@@ -75,7 +75,7 @@ ClaimIsAccepted = (s : State) (tx : ℕ) (after : Txn) → claim_refusal s tx af
 
 abbrev pub EvaluationIsMachines : Type 0
 EvaluationIsMachines =
-    (tables : Tables) (stmt : Stmt) (context : Context) (k : ℕ) → is_plain stmt ≡ true
+    (tables : Tables) (stmt : Stmt) (context : Context) (k : ℕ) → is_evaluated stmt ≡ true
     → machine.evaluated tables stmt context k ≡ record {
       answer = answer_of (run.evaluated tables stmt context k).outcome;
       refused = is_refused (run.evaluated tables stmt context k).outcome;
@@ -150,7 +150,7 @@ same-count count put seats tx x y at none also =
 
 -- THE STATEMENT
 module _ (laws : Laws) (first : ℕ) (s : State) (w : Engine) (is : IsOf first w s) (session tx : ℕ) (t : Txn) (of : txn_of s session ≡ Some (tx, t)) (at : maps.get s.txs tx ≡ Some t) (sits : maps.get s.sessions session ≡ Some tx)
-    (active : t.phase ≡ phases.Active) (stmt : Stmt) (plain : is_plain stmt ≡ true) where
+    (active : t.phase ≡ phases.Active) (stmt : Stmt) (plain : is_evaluated stmt ≡ true) where
   abbrev pub asked : Step
   asked = steps.Statement session stmt
 
@@ -427,7 +427,7 @@ module _ (first : ℕ) (s : State) (w : Engine) (is : IsOf first w s) (v0 : Tran
   pub memory-shows : (v2 : Transaction) (fault : StepFault) → v2 ≡ v0 → Shows asked-of s v0 v2 (Err fault)
   memory-shows v2 fault so = record { shown = tt; memory = λ q. so }
 
-  module _ (laws : Laws) (tx : ℕ) (t : Txn) (knows : Knows s v0 tx t) (active : t.phase ≡ phases.Active) (plain : is_plain stmt ≡ true) (context : Context)
+  module _ (laws : Laws) (tx : ℕ) (t : Txn) (knows : Knows s v0 tx t) (active : t.phase ≡ phases.Active) (plain : is_evaluated stmt ≡ true) (context : Context)
       (context_is : context ≡ record { server = w.settings.server; key = w.settings.key; now = w.moment; life = w.settings.life; tx = tx }) (v1 : Transaction) (made : v1 ≡ after_evaluation v0 stmt (run.evaluated v0.copy stmt context v0.next)) where
     abbrev pub behind : Transaction
     behind = after_evaluation (shown_by v0.session (Some (tx, t))) stmt (run.evaluated t.copy stmt (context_of s tx) t.next)

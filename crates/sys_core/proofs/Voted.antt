@@ -26,7 +26,8 @@ use Rattle.meaning_settling.specs.Settling.{Moved}
 use Rattle.meaning_system.specs.Claims.{prepare_refusal}
 use Rattle.meaning_system.specs.Machine.{on_session, on_txn, step, voted, with_phase}
 use Rattle.meaning_system.specs.State.{State, Txn, is_active, moved_of, txn_of, with_txn}
-use Rattle.meaning_system.specs.Writes.{is_refused, prepared, session_writes, txn_writes, when, writes}
+use Rattle.dl_base.specs.Answers.{is_refused}
+use Rattle.meaning_system.specs.Writes.{prepared, session_writes, txn_writes, when, writes}
 use Rattle.sys_core.proofs.Behind.{EachLeads, behind-sound, behind-taken, no-prepare}
 use Rattle.sys_core.proofs.Ended.{SeatsPut}
 use Rattle.sys_core.proofs.Knowing.{Knows, put-txn}

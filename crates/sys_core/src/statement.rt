@@ -1,6 +1,6 @@
 // A statement of plain SQL in a transaction.
 ghost use Rattle.std.specs.Prelude.{◌≡◌, ℕ, true, Err, IfOk};
-ghost use Rattle.db_txn.specs.Transaction.{is_plain, standing};
+ghost use Rattle.db_txn.specs.Transaction.{is_evaluated, standing};
 ghost use Rattle.dl_base.specs.declared.step.Step.TheVariants as steps;
 ghost use Rattle.meaning_system.specs.State.{State};
 ghost use Rattle.sys_core.specs.Claiming.{told_of};
@@ -23,7 +23,7 @@ impl Engine {
     /// as plain SQL, or as a claim: Doomed, Conflict, and NoFile, AlreadyLinked or Busy on the first link that is so. The only error is
     /// want of memory, after which all is as it was.
     pub fn statement(&mut self, txn: &mut Txn, stmt: &Stmt) -> Result<Answer, StepFault>
-        requires plain { is_plain stmt.now ≡ true }
+        requires plain { is_evaluated stmt.now ≡ true }
         requires stands { (first : ℕ) × (s : State) × IsOf first self.old s × HasTxn s txn.old }
         ensures steps { (first : ℕ) (s : State) → IsOf first self.old s → HasTxn s txn.old → StepsInMemory first (steps.Statement txn.old.session stmt.now) s self.old self.new result }
         ensures shows { (first : ℕ) (s : State) → IsOf first self.old s → HasTxn s txn.old → Shows (steps.Statement txn.old.session stmt.now) s txn.old txn.new result }

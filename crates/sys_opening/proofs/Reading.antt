@@ -1,7 +1,5 @@
 -- What areas stand for that are open.
 use Rattle.std.proofs.Common.{◌≡◌, inr, ◌+◌, ◌<◌, ℕ, List, Some, Result, Ok, refl, sym, ◌∙◌, ap, subst, arith}
-use Rattle.bk_backup.specs.Saved as backups_area
-use Rattle.db_store.specs.Store as rows_area
 use Rattle.dl_areas.specs.Lists.{AreKept, HasLists, Journals, Lists, puts}
 use Rattle.dl_areas.specs.Opening.{AreOpened, journals_with}
 use Rattle.dl_areas.specs.Writing.{Does, fitting}
@@ -12,8 +10,6 @@ use Rattle.dl_base.specs.declared.area.Area.TheVariants as areas
 use Rattle.dl_base.specs.declared.fault.AppendFault.TheVariants as appends
 use Rattle.dl_base.specs.declared.fault.Full.{Full}
 use Rattle.dl_journal.specs.Records.{records, size}
-use Rattle.fm_archive.specs.Stock as copies_area
-use Rattle.fm_branch.specs.Linked as links_area
 use Rattle.fm_manager.specs.Managed.{as_writes}
 use Rattle.meaning_areas.specs.Areas.{Areas, AreasStand, IsUnlike, StandForNothing, area_length, backups_of, branches_of, bytes_of, copies_of, folds_of, listed, rows_of}
 use Rattle.meaning_areas.specs.FilesArea.{files_of}
@@ -22,6 +18,7 @@ use Rattle.meaning_areas.specs.Stands.{IsStand, stored_of}
 use Rattle.meaning_files.specs.Files.{Files}
 use Rattle.meaning_system.specs.Writes.{opening}
 use Rattle.sys_opening.specs.Begun.{AreFound}
+use Rattle.sys_owners.proofs.Placing.{its-area}
 use Rattle.sys_owners.specs.Owned.{AreFolded, AreTold, Owned, journals_of}
 use Rattle.sys_owners.proofs.Reading.{all-read, read-ok}
 
@@ -58,14 +55,6 @@ module _ (limit : ℕ) (js : Journals) (lists : Lists) (o n : Outside) (all : Ar
   -- and they are found
   pub found-told : (f : Folds) → AreFolded lists f → IsStand f (stored_of f) → AreFound lists f o
   found-told f folded stand = record { read = λ a. (bytes_of x a, told a, list-at a); folded = folded; stand = stand }
-
--- each owner has the journal of its area
-pub its-area : (w : Owned) (a : Area) → (journals_of w a).area ≡ a
-its-area w areas.Rows = refl
-its-area w areas.Links = refl
-its-area w areas.Files = refl
-its-area w areas.Archive = refl
-its-area w areas.Backups = refl
 
 -- a record of the opening has no room: a crash leaves those before it, behind the lists that were read
 pub full-there : (limit : ℕ) (js : Journals) (u : Owned) (lists read : Lists) (f h : Folds) (m n : Outside) (full : Full) → js ≡ journals_with limit lists → lists ≡ read → f ≡ h → AreKept js lists m

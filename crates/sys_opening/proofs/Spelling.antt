@@ -3,7 +3,7 @@ use Rattle.std.proofs.Common.{◌≡◌, ◌<◌, ◌+◌, ◌-◌, ◌^◌, ℕ
 use Rattle.std.proofs.lemmas.Bool.Decides.{nat_tests}
 use Rattle.std.specs.Option.{option_or}
 use Rattle.dl_areas.specs.Lists.{Journals, Write, grown_by}
-use Rattle.dl_areas.specs.Writing.{fitting, full_in, past_limit, refused, unless}
+use Rattle.dl_areas.specs.Writing.{fitting, full_in, past_limit, refused, unless_full}
 use Rattle.dl_base.specs.declared.fault.Full.{Full}
 use Rattle.dl_base.specs.declared.fault.Full.TheVariants as fulls
 use Rattle.dl_codec.specs.Layout.{u32, u64}
@@ -116,7 +116,7 @@ fitting-front [] js have (w ∷ ws) rest parts = absurd (nothing-more w (ws ++ r
 fitting-front (x ∷ xs) js have (w ∷ ws) rest parts = by (fitting-front xs (grown_by (as_write x) js) have.1 ws rest) (refused js (as_write x)) refl parts
   where
     by : (ws ++ rest ≡ fitting (grown_by (as_write x) js) (as_writes xs) → Front xs ws)
-        → (o : Option Full) → refused js (as_write x) ≡ o → w ∷ (ws ++ rest) ≡ unless o (as_write x ∷ fitting (grown_by (as_write x) js) (as_writes xs)) → Front (x ∷ xs) (w ∷ ws)
+        → (o : Option Full) → refused js (as_write x) ≡ o → w ∷ (ws ++ rest) ≡ unless_full o (as_write x ∷ fitting (grown_by (as_write x) js) (as_writes xs)) → Front (x ∷ xs) (w ∷ ws)
     by go (Some full) is same = absurd (nothing-more w (ws ++ rest) same)
     by go None is same =
         front-more x xs w ws (have.0 (has-number js x is)) (sym (head-same w (as_write x) (ws ++ rest) (fitting (grown_by (as_write x) js) (as_writes xs)) same))

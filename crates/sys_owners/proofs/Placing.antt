@@ -20,6 +20,14 @@ with_store w d = record { store = d; manager = w.manager; backups = w.backups }
 abbrev pub with_manager : Owned → Managed → Owned
 with_manager w m = record { store = w.store; manager = m; backups = w.backups }
 
+-- each journal is that of its area
+pub its-area : (w : Owned) (a : Area) → (journals_of w a).area ≡ a
+its-area w Rows = refl
+its-area w Links = refl
+its-area w Files = refl
+its-area w Archive = refl
+its-area w Backups = refl
+
 -- the journals with one of their owners' in its place
 
 store-in : (w : Owned) (d : Database) → with_journal (rows_area.extent d) (journals_of w) ≡ journals_of (with_store w d)

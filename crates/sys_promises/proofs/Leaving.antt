@@ -26,14 +26,14 @@ use Rattle.meaning_system.specs.Writes.{opening, writes}
 use Rattle.sys_core.specs.Standing.{IsOf}
 use Rattle.sys_core.specs.Steps.{Steps, draws, records_of}
 use Rattle.sys_core.specs.declared.engine.Engine.{Engine}
-use Rattle.sys_opening.proofs.Reading.{its-area}
+use Rattle.sys_owners.proofs.Placing.{its-area}
 use Rattle.sys_opening.specs.Begun.{HasBegun}
 use Rattle.sys_owners.specs.Owned.{Owned, folds_in, journals_of}
 use Rattle.sys_recovery.specs.Left.{IsAtomic, areas_of, has_commit}
 use Rattle.sys_run.proofs.Images.{Drawn, Laws, all-written, drawn, draws-is, exhausted, exhausted-fits, leaves-some, nil, no-cons, no-draws, no-prefix, none-fitting, part-of, partly, stays, strict, wholly}
 use Rattle.sys_run.proofs.Stepping.{Leads, Owes}
 use Rattle.sys_run.specs.Turning.{LeavesSome}
-use Rattle.sys_promises.specs.Taken.{AllRecover, EngineStands, IsBeforeOrBehind, RecoverAlike, Throughout, Took}
+use Rattle.sys_promises.specs.Taken.{AllRecover, EngineStands, IsBeforeOrBehind, RecoverAlike, Throughout, TookStep}
 
 -- what a crash leaves now is an image of the area of each journal
 image-of : (w : Owned) (o : Outside) (p : CrashState) → Now o p → (a : Area) → o.image (journals_of w a).area (p.areas a)
@@ -154,7 +154,7 @@ module _ (laws : Laws) (first : ℕ) (lists : Lists) (s : State) (w : Engine) (o
             left (spelled none) next later part.front part.back part.parts part.is_back
             (λ p now. subst (λ (l : List Write). HasLists (puts l lists) p) (sym part.is_front) (fit-there f d p now))
 
-  module _ (x : Step) (v : Engine) (result : Result Answer StepFault) (n : Outside) (took : Took first x s w v result o n) where
+  module _ (x : Step) (v : Engine) (result : Result Answer StepFault) (n : Outside) (took : TookStep first x s w v result o n) where
     pub during : IsLawful o → IsLawful n → Throughout (IsBeforeOrBehind s x) o n
     during law later = throughout (IsBeforeOrBehind s x) n law later (λ p is. inl is) (during-by x took.atomic v n result took.steps took.spelled)
 
@@ -176,7 +176,7 @@ module _ (laws : Laws) (first : ℕ) (lists : Lists) (s : State) (w : Engine) (o
         full-by x took.atomic v n commits f t.ends (took.spelled (λ e. absurd cc))
 
 module _ (laws : Laws) (first : ℕ) (lists : Lists) (s : State) (w : Engine) (o : Outside) (stands : EngineStands first lists s w o) where
-  pub answered : Leads → Owes → (x : Step) (v : Engine) (result : Result Answer StepFault) (n : Outside) → Took first x s w v result o n → OnOk result (AllRecover (step s x).1 n × EngineStands first (puts (as_writes (writes s x)) lists) (step s x).1 v n)
+  pub answered : Leads → Owes → (x : Step) (v : Engine) (result : Result Answer StepFault) (n : Outside) → TookStep first x s w v result o n → OnOk result (AllRecover (step s x).1 n × EngineStands first (puts (as_writes (writes s x)) lists) (step s x).1 v n)
   answered leads owes x v (Err e) n took = tt
   answered leads owes x v (Ok a) n took =
       let none = no-draws lists (journals_of w.owners) (journals_of v.owners) s x o n stands.kept took.steps.ends in

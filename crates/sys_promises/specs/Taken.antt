@@ -33,7 +33,7 @@ pub record EngineStands (first : ℕ) (lists : Lists) (s : State) (w : Engine) (
 
 -- IT TOOK A STEP, and this is how that ended. The engine takes each step but Resolve. Its contracts say the rest: where it did not end for
 -- want of memory, and no number that it draws was exhausted, the step's records have spellings.
-pub record Took (first : ℕ) (x : Step) (s : State) (w v : Engine) (result : Result Answer StepFault) (o n : Outside) : Type 0 where
+pub record TookStep (first : ℕ) (x : Step) (s : State) (w v : Engine) (result : Result Answer StepFault) (o n : Outside) : Type 0 where
   pub atomic : IsAtomic x
   pub steps : Steps first x s w v result o n
   pub spelled : result ≢ Err faults.Memory → draws s x ≡ [] → AreSpelled (writes s x)

@@ -25,7 +25,7 @@ ghost use Rattle.sys_core.specs.Steps.{Steps, StepsInMemory};
 ghost use Rattle.sys_core.specs.declared.engine.Engine.{Engine};
 ghost use Rattle.sys_opening.specs.Begun.{HasBegun};
 ghost use Rattle.sys_promises.specs.Recorded.{HasRecords, IsThere};
-ghost use Rattle.sys_promises.specs.Taken.{AllRecover, EngineStands, IsBeforeOrBehind, RecoverAlike, Throughout, Took};
+ghost use Rattle.sys_promises.specs.Taken.{AllRecover, EngineStands, IsBeforeOrBehind, RecoverAlike, Throughout, TookStep};
 ghost use Rattle.sys_recovery.specs.Left.{IsAtomic, areas_of};
 ghost use Rattle.sys_run.specs.Running.{IsInRun};
 
@@ -50,13 +50,13 @@ pub fn an_engine_stands_over_its_areas<B: Bench>()
 /// behind it, over which the engine stands then, so that the next step may be taken. A step that ends for want of memory leaves all as it
 /// was. Of one that is full, all that a crash leaves recovers to one state.
 pub fn each_image_of_a_step_recovers<B: Bench>()
-    ensures during { (first : ℕ) (lists : Lists) (x : Step) (s : State) (w v : Engine) (result : Result Answer StepFault) (o n : B) → EngineStands first lists s w (B.outside o) → Took first x s w v result (B.outside o) (B.outside n)
+    ensures during { (first : ℕ) (lists : Lists) (x : Step) (s : State) (w v : Engine) (result : Result Answer StepFault) (o n : B) → EngineStands first lists s w (B.outside o) → TookStep first x s w v result (B.outside o) (B.outside n)
         → Throughout (IsBeforeOrBehind s x) (B.outside o) (B.outside n) }
-    ensures answered { (first : ℕ) (lists : Lists) (x : Step) (s : State) (w v : Engine) (result : Result Answer StepFault) (o n : B) → EngineStands first lists s w (B.outside o) → Took first x s w v result (B.outside o) (B.outside n)
+    ensures answered { (first : ℕ) (lists : Lists) (x : Step) (s : State) (w v : Engine) (result : Result Answer StepFault) (o n : B) → EngineStands first lists s w (B.outside o) → TookStep first x s w v result (B.outside o) (B.outside n)
         → OnOk result (AllRecover (step s x).1 (B.outside n) × EngineStands first (puts (as_writes (writes s x)) lists) (step s x).1 v (B.outside n)) }
-    ensures memory { (first : ℕ) (lists : Lists) (x : Step) (s : State) (w v : Engine) (result : Result Answer StepFault) (o n : B) → EngineStands first lists s w (B.outside o) → Took first x s w v result (B.outside o) (B.outside n)
+    ensures memory { (first : ℕ) (lists : Lists) (x : Step) (s : State) (w v : Engine) (result : Result Answer StepFault) (o n : B) → EngineStands first lists s w (B.outside o) → TookStep first x s w v result (B.outside o) (B.outside n)
         → result ≡ Err faults.Memory → Throughout (λ p. Recovers (areas_of p) s) (B.outside o) (B.outside n) × EngineStands first lists s v (B.outside n) }
-    ensures full { (first : ℕ) (lists : Lists) (x : Step) (s : State) (w v : Engine) (result : Result Answer StepFault) (o n : B) → EngineStands first lists s w (B.outside o) → Took first x s w v result (B.outside o) (B.outside n)
+    ensures full { (first : ℕ) (lists : Lists) (x : Step) (s : State) (w v : Engine) (result : Result Answer StepFault) (o n : B) → EngineStands first lists s w (B.outside o) → TookStep first x s w v result (B.outside o) (B.outside n)
         → (full : Full) → result ≡ Err (faults.Full full) → RecoverAlike s x (B.outside n) }
 {
     what_is_written_is_read();

@@ -25,7 +25,8 @@ use Rattle.meaning_settling.specs.Keyed.{is_at}
 use Rattle.meaning_settling.specs.Settling.{Kept, Moved, link_key}
 use Rattle.meaning_system.specs.Machine.{finish_left, is_left_in, pending, step}
 use Rattle.meaning_system.specs.State.{State, Txn, has_links, is_decided, is_prepared, kept_in, moved_of, txn_of}
-use Rattle.meaning_system.specs.Writes.{aborted, archive_list, backup_writes, copy_list, decide_writes, drop_writes, file_writes, is_refused, left_writes, prepared, session_writes, settle_writes, taken_by, txn_writes, when, whole_finish, writes}
+use Rattle.dl_base.specs.Answers.{is_refused}
+use Rattle.meaning_system.specs.Writes.{aborted, archive_list, backup_writes, copy_list, decide_writes, drop_writes, file_writes, left_writes, prepared, session_writes, settle_writes, taken_by, txn_writes, when, whole_finish, writes}
 use Rattle.sys_recovery.specs.Left.{has_commit}
 use Rattle.sys_recovery.proofs.Holding.{IsOne, finish-none, no-front, none-less, none-more}
 

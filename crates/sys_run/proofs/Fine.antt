@@ -1,6 +1,6 @@
 -- Which steps a line comes to.
 use Rattle.std.proofs.Common.{◌≡◌, ℕ, Bool, true, false, cond, List, [], ◌∷◌, length, position, Option, Some, None, refl}
-use Rattle.db_txn.specs.Transaction.{is_plain}
+use Rattle.db_txn.specs.Transaction.{is_evaluated}
 use Rattle.dl_base.specs.declared.answer.Answer.{Answer}
 use Rattle.dl_base.specs.declared.answer.Answer.TheVariants as answers
 use Rattle.dl_base.specs.declared.statement.Stmt.{Stmt}
@@ -14,7 +14,8 @@ use Rattle.fs_command.specs.declared.line.FileLine.{FileLine}
 use Rattle.fs_command.specs.declared.line.FileLine.TheVariants as files
 use Rattle.meaning_run.specs.Built.{is_built}
 use Rattle.meaning_run.specs.Running.{Run, actor_state, stores_copies}
-use Rattle.meaning_script.specs.Expansion.{Then, does, answered, alone, archive, archive_first, asked, backup, backup_behind, backup_by, backup_from, behind_decide, behind_prepare, behind_statement, commit, commit_behind, commit_by, expansion, file, first_step, goes_on, is_alone, is_archived, is_commit, is_refused, last_of, one, read_of, session, statement, step_from, system, told_commit}
+use Rattle.dl_base.specs.Answers.{is_committed, is_refused}
+use Rattle.meaning_script.specs.Expansion.{Then, does, answered, alone, archive, archive_first, asked, backup, backup_behind, backup_by, backup_from, behind_decide, behind_prepare, behind_statement, commit, commit_behind, commit_by, expansion, file, first_step, goes_on, is_alone, is_archived, last_of, one, read_of, session, statement, step_from, system, told_commit}
 use Rattle.meaning_script.specs.declared.kind.Line.{Line}
 use Rattle.meaning_script.specs.declared.kind.Line.TheVariants as lines
 use Rattle.meaning_script.specs.declared.kind.Order.{Order}
@@ -51,9 +52,9 @@ module _ (count n : ℕ) (in_range : IsSession count n) where
 
   fine-decide-behind : (prepared decided : Answer) → Fine count (behind_decide n prepared decided)
   unfolding behind_decide
-  fine-decide-behind prepared decided = fine-cond count (is_refused prepared) _ _ tt (fine-cond count (is_refused decided) _ _ tt (fine-cond count (is_commit decided) _ _ in_range tt))
+  fine-decide-behind prepared decided = fine-cond count (is_refused prepared) _ _ tt (fine-cond count (is_refused decided) _ _ tt (fine-cond count (is_committed decided) _ _ in_range tt))
 
-  fine-alone : (stmt : Stmt) → is_plain stmt ≡ true → (done : List Answer) → Fine count (alone n stmt done)
+  fine-alone : (stmt : Stmt) → is_evaluated stmt ≡ true → (done : List Answer) → Fine count (alone n stmt done)
   unfolding alone
   fine-alone stmt plain [] = in_range
   fine-alone stmt plain (a ∷ []) = (in_range, plain)
@@ -76,19 +77,19 @@ module _ (count n : ℕ) (in_range : IsSession count n) where
 
   fine-goes-on : (o : Option Phase) (done : List Answer) → Fine count (goes_on (step_from n o) done)
   unfolding goes_on
-  fine-goes-on None done = fine-told (position is_commit done)
+  fine-goes-on None done = fine-told (position is_committed done)
   fine-goes-on (Some phases.Active) done = in_range
   fine-goes-on (Some phases.Prepared) done = in_range
   fine-goes-on (Some phases.Decided) done = in_range
-  fine-goes-on (Some phases.Finished) done = fine-told (position is_commit done)
-  fine-goes-on (Some phases.Dropped) done = fine-told (position is_commit done)
+  fine-goes-on (Some phases.Finished) done = fine-told (position is_committed done)
+  fine-goes-on (Some phases.Dropped) done = fine-told (position is_committed done)
 
   fine-commit : (phase : Option Phase) (done : List Answer) (o : Option Answer) → Fine count (commit_by n phase done o)
   unfolding commit_behind
   fine-commit phase done None = fine-first phase
   fine-commit phase done (Some a) = fine-cond count (is_refused a) _ _ tt (fine-goes-on phase done)
 
-fine-statement : (count : ℕ) (actor : ActorState) → IsSession count actor.session → (stmt : Stmt) → is_plain stmt ≡ true → (done : List Answer) → Fine count (statement actor stmt done)
+fine-statement : (count : ℕ) (actor : ActorState) → IsSession count actor.session → (stmt : Stmt) → is_evaluated stmt ≡ true → (done : List Answer) → Fine count (statement actor stmt done)
 unfolding statement
 fine-statement count actor in_range stmt plain done =
     fine-cond count (is_alone actor.phase done) _ _ (fine-alone count actor.session in_range stmt plain done) (fine-one count (steps.Statement actor.session stmt) done (in_range, plain))

@@ -3,7 +3,7 @@ use Rattle.std.proofs.Common.{◌≡◌, ℕ, ◌+◌, ◌<◌, ◌^◌, List, [
 use Rattle.std.specs.Option.{option_or}
 use Rattle.dl_areas.proofs.Fitting.{fitting-rest, full-stop}
 use Rattle.dl_areas.specs.Lists.{AreKept, HasLists, Journals, Lists, Write, grown_by, puts}
-use Rattle.dl_areas.specs.Writing.{Does, LeavesPrefix, fitting, full_in, past_limit, refused, unless}
+use Rattle.dl_areas.specs.Writing.{Does, LeavesPrefix, fitting, full_in, past_limit, refused, unless_full}
 use Rattle.dl_base.proofs.Moments.{moments_more}
 use Rattle.dl_base.specs.Outside.{AtEveryMoment, CrashState, Outside}
 use Rattle.dl_base.specs.declared.answer.Answer.{Answer}
@@ -121,7 +121,7 @@ plain s x ds is = ap (λ (es : List Write). es ++ as_writes (writes s x)) is
 -- nothing fits behind it
 none-fits : (js : Journals) (w : Write) (ws : List Write) (f : Full) → w.exhausted ≡ Some f → fitting js (w ∷ ws) ≡ []
 unfolding fitting
-none-fits js w ws f is = ap (λ (o : Option Full). unless (option_or o (past_limit js w)) (w ∷ fitting (grown_by w js) ws)) is
+none-fits js w ws f is = ap (λ (o : Option Full). unless_full (option_or o (past_limit js w)) (w ∷ fitting (grown_by w js) ws)) is
 
 not-full : (js : Journals) (w : Write) (ws : List Write) (f : Full) → w.exhausted ≡ Some f → full_in js (w ∷ ws) ≡ Some f
 unfolding full_in
@@ -137,7 +137,7 @@ none_some x e = absurd cc
 abbrev pub IsStrict : List Write → List Write → Type 0
 IsStrict fit ws = (next : Write) × (later : List Write) × (fit ++ next ∷ later ≡ ws)
 
-cut-at : (o b : Option Full) (w : Write) (fit ws : List Write) (f : Full) → option_or o b ≡ Some f → (b ≡ Some f → IsStrict fit ws) → IsStrict (unless o (w ∷ fit)) (w ∷ ws)
+cut-at : (o b : Option Full) (w : Write) (fit ws : List Write) (f : Full) → option_or o b ≡ Some f → (b ≡ Some f → IsStrict fit ws) → IsStrict (unless_full o (w ∷ fit)) (w ∷ ws)
 cut-at (Some g) b w fit ws f is rest = (w, ws, refl)
 cut-at None b w fit ws f is rest = let (next, later, parts) = rest is in (next, later, ap (λ (l : List Write). w ∷ l) parts)
 
@@ -157,7 +157,7 @@ pub none-fitting : (js : Journals) → fitting js [] ≡ []
 unfolding fitting
 none-fitting js = refl
 
-fit-at : (o : Option Full) (w : Write) (ws : List Write) (js : Journals) → refused js w ≡ o → full_in (grown_by w js) ws ≡ None → full_in js (unless o (w ∷ ws)) ≡ None
+fit-at : (o : Option Full) (w : Write) (ws : List Write) (js : Journals) → refused js w ≡ o → full_in (grown_by w js) ws ≡ None → full_in js (unless_full o (w ∷ ws)) ≡ None
 unfolding full_in
 fit-at (Some f) w ws js is fit = refl
 fit-at None w ws js is fit = ap (λ (o : Option Full). option_or o (full_in (grown_by w js) ws)) is ∙ fit

@@ -7,7 +7,6 @@ use Rattle.dl_base.proofs.Moments.{moments_more}
 use Rattle.dl_base.specs.Outside.{AtEveryMoment, CrashState, Now, Outside}
 use Rattle.dl_base.specs.declared.answer.Answer.{Answer}
 use Rattle.dl_base.specs.declared.area.Area.{Area}
-use Rattle.dl_base.specs.declared.area.Area.TheVariants as areas
 use Rattle.dl_base.specs.declared.fault.AppendFault.{AppendFault}
 use Rattle.dl_base.specs.declared.fault.AppendFault.TheVariants as appends
 use Rattle.dl_base.specs.declared.fault.Full.{Full}
@@ -29,7 +28,8 @@ use Rattle.meaning_system.specs.State.{State}
 use Rattle.meaning_system.specs.Writes.{writes}
 use Rattle.sys_core.specs.Steps.{Steps, draws, records_of}
 use Rattle.sys_core.specs.declared.engine.Engine.{Engine}
-use Rattle.sys_owners.specs.Owned.{Owned, journals_of}
+use Rattle.sys_owners.proofs.Placing.{its-area}
+use Rattle.sys_owners.specs.Owned.{journals_of}
 use Rattle.sys_recovery.specs.Left.{areas_of, has_commit, left_by}
 use Rattle.sys_run.specs.Running.{AreOf, HasGrown, IsFullIn, IsInRun, Stands, StandsAfter, resting}
 use Rattle.sys_run.specs.Sessions.{AreShown, IsStepOf}
@@ -46,14 +46,6 @@ Leads = (first : ℕ) (f : Folds) (s : State) (x : Step) → AreSound first f s 
 -- what a restore owes is owed by none
 abbrev pub Owes : Type 0
 Owes = (first : ℕ) (f : Folds) (s : State) → AreSound first f s → (t : Target) → AreRestored s t
-
--- each journal is that of its area
-its-area : (w : Owned) (a : Area) → (journals_of w a).area ≡ a
-its-area w areas.Rows = refl
-its-area w areas.Links = refl
-its-area w areas.Files = refl
-its-area w areas.Archive = refl
-its-area w areas.Backups = refl
 
 -- the sessions behind a step
 pub stepped-of : (r : Run) (x : Step) (v : Sessions) (txns : List Transaction) → AreOf r v → AreShown (step r.state x).1 txns → length txns ≡ length v.txns → AreOf (stepped r x) (record v { txns = txns })

@@ -1,7 +1,7 @@
 -- What is kept of the sessions of a script, and which steps they take.
 use Rattle.std.specs.Prelude.{◌≡◌, ◌≤◌, ℕ, zero, suc, ◌||◌, Bool, true, List, slice_get, is_some, Option, Some, None}
 use Rattle.std.specs.Option.{unwrap_or}
-use Rattle.db_txn.specs.Transaction.{Transaction, is_plain, vacant}
+use Rattle.db_txn.specs.Transaction.{Transaction, is_evaluated, vacant}
 use Rattle.dl_base.specs.declared.step.Step.{Step}
 use Rattle.dl_base.specs.declared.step.Step.TheVariants as steps
 use Rattle.meaning_script.specs.Actors.{is_user_mark, session_number}
@@ -35,7 +35,7 @@ is_seated actors (Some a) = is_user_mark a || is_some (session_number actors a)
 -- a step that is taken for a line: of one of so many sessions, a command on files, a copy or a backup that is stored, a restore, or of the clock
 abbrev pub IsStepOf : ℕ → Step → Type 0
 IsStepOf count (steps.Begin n) = IsSession count n
-IsStepOf count (steps.Statement n stmt) = IsSession count n × (is_plain stmt ≡ true)
+IsStepOf count (steps.Statement n stmt) = IsSession count n × (is_evaluated stmt ≡ true)
 IsStepOf count (steps.Prepare n) = IsSession count n
 IsStepOf count (steps.Decide n) = IsSession count n
 IsStepOf count (steps.Finish n) = IsSession count n

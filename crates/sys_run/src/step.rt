@@ -1,6 +1,6 @@
 // One step of the machine, for a line.
 ghost use Rattle.std.specs.Prelude.{◌≡◌, ◌≢◌, ℕ, [], true, length, position, Err, OnOk};
-ghost use Rattle.db_txn.specs.Transaction.{is_plain};
+ghost use Rattle.db_txn.specs.Transaction.{is_evaluated};
 ghost use Rattle.dl_areas.specs.Lists.{AreReady};
 ghost use Rattle.dl_base.specs.declared.step.Step.TheVariants as steps;
 ghost use Rattle.fm_manager.specs.Managed.{AreSpelled};
@@ -81,7 +81,7 @@ fn state(
     stmt: &Stmt,
 ) -> Result<Answer, StepFault>
     requires of { IsSession (length txns.old) session }
-    requires plain { is_plain stmt.now ≡ true }
+    requires plain { is_evaluated stmt.now ≡ true }
     requires stands { (first : ℕ) × (s : State) × IsOf first engine.old s × AreShown s txns.old }
     ensures steps { (first : ℕ) (s : State) → IsOf first engine.old s → AreShown s txns.old → StepsInMemory first (steps.Statement session stmt.now) s engine.old engine.new result }
     ensures shown { (first : ℕ) (s : State) → IsOf first engine.old s → AreShown s txns.old → OnOk result (AreShown (machine.step s (steps.Statement session stmt.now)).1 txns.new) }

@@ -7,5 +7,5 @@ use Rattle.compare_files.proofs.archive.are_archived.Given as goal
 -- all so far are committed, or have a copy where they have RECOVERY YES
 abbrev pub invariant-loop-i : goal.invariant-loop-i
 invariant-loop-i l =
-    list_all (archived_by l.sight.settled.now l.sight.files.now.files l.sight.archive.now.copies l.numbers.entries) (drop l.i (maps.values l.sight.every.now))
-    ≡ list_all (archived_by l.sight.settled.now l.sight.files.now.files l.sight.archive.now.copies l.numbers.entries) (maps.values l.sight.every.now)
+    list_all (archived_by l.sight.settled.now l.sight.files.now.files l.sight.archive.now.copies l.numbers.keys) (drop l.i (maps.values l.sight.every.now))
+    ≡ list_all (archived_by l.sight.settled.now l.sight.files.now.files l.sight.archive.now.copies l.numbers.keys) (maps.values l.sight.every.now)

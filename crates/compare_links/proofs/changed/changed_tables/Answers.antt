@@ -16,7 +16,7 @@ pub loop-i-preserved : goal.loop-i-preserved
 loop-i-preserved c = grind (arith, common_steps)
 
 pub returns-in-None-clause-named : goal.returns-in-None-clause-named
-returns-in-None-clause-named c = grind (arith, common_steps)
+returns-in-None-clause-named c = distinct-named c.args.after.now c.len-i-end.ensures.distinct
 
 pub returns-clause-tables : goal.returns-clause-tables
 returns-clause-tables c = grind (arith, common_steps)

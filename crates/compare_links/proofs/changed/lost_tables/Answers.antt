@@ -21,4 +21,4 @@ pub returns-clause-tables : goal.returns-clause-tables
 returns-clause-tables c = grind (arith, common_steps)
 
 pub returns-in-None-clause-named : goal.returns-in-None-clause-named
-returns-in-None-clause-named c = grind (arith, common_steps)
+returns-in-None-clause-named c = distinct-named c.args.before.now c.len-i-end.ensures.distinct

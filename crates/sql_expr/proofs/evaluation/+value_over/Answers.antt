@@ -88,7 +88,7 @@ returns-in-Asks t c =
     ∙ sym (ap (λ (r : Result Value SqlFault). r >>= λ y. binary op y (at b)) left)
     ∙ ap (λ (e : Tree). at e >>= λ y. binary op y (at b)) c.get.ensures
     ∙ sym whole in
-    subst (λ (r : Result Value SqlFault). Computes seen c.after.result r) is (c.after.ensures (at b0) c.value_over-in-Asks.ensures)
+    subst (λ (r : Result Value SqlFault). Computes seen c.after.result r) is (c.after.ensures.value (at b0) c.value_over-in-Asks.ensures)
 
 pub returns-in-Err : goal.returns-in-Err
 returns-in-Err t c = λ other.

@@ -1,5 +1,5 @@
 use Rattle.std.proofs.Common.{◌≡◌, false, drop, get_or, Some, sym, ap, ◌∙◌}
-use Rattle.sql_lex.specs.Spelling.{is_blank}
+use Rattle.dl_base.specs.Blank.{is_blank}
 use Rattle.sql_lex.specs.Scan.{front, scan}
 use Rattle.sql_lex.proofs.Steps.{lexeme_step, rest_is}
 use Rattle.sql_lex.proofs.lexer.scan.Goals as goal

@@ -1,4 +1,4 @@
-use Rattle.std.proofs.Common.{◌≡◌, inl, Ok, Err, Some, None, Option, refl, sym, ◌∙◌, ap, subst, arith, rules}
+use Rattle.std.proofs.Common.{◌≡◌, inl, Ok, Err, Some, None, Option, refl, sym, ◌∙◌, ap, subst, rules}
 use Rattle.dl_areas.specs.Lists.{Lists}
 use Rattle.dl_areas.specs.Opening.{IsInBegin, IsInOpening, journals_with}
 use Rattle.dl_areas.specs.Writing.{full_in}

@@ -1,5 +1,5 @@
 use Rattle.std.proofs.Common.{◌≡◌, ◌++◌, drop}
 use Rattle.db_changes.proofs.touched.TouchedRows.share.Given as goal
 
-abbrev pub invariant-loop-i : goal.invariant-loop-i
-invariant-loop-i l = l.entries.entries ++ drop l.i l.self ≡ l.self
+abbrev pub invariant-loop-entry : goal.invariant-loop-entry
+invariant-loop-entry l = l.entries.items ++ drop l.entry-index l.self ≡ l.self

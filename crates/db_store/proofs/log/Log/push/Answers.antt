@@ -1,9 +1,9 @@
-use Rattle.std.proofs.Common.{arith}
-use Rattle.std.proofs.lemmas.Grind.{common_steps}
+use Rattle.std.proofs.Common.{◌≡◌, None, nat_eq, rules}
+use Rattle.std.specs.Map.{lookup}
+use Rattle.db_store.proofs.Known.{more_branches}
 use Rattle.db_store.proofs.log.Log.push.Goals as goal
 
-pub returns-clause-entries : goal.returns-clause-entries
-returns-clause-entries c = grind (arith, common_steps)
-
-pub insert-requires : goal.insert-requires
-insert-requires c = grind (arith, common_steps)
+pub invariant_of-self : goal.invariant_of-self
+invariant_of-self c =
+    let new : lookup (λ k. nat_eq c.args.tx k) c.self.inside.entries.items ≡ None = search rules in
+    more_branches c.self.inside.branches c.know.new.branches c.self.inside.entries.items c.push_reserved.new.self.items c.args.tx c.args.entry c.self.invariant new c.know.ensures.branches c.push_reserved.ensures.items

@@ -1,4 +1,4 @@
-use Rattle.std.proofs.Common.{arith}
+use Rattle.std.proofs.Common.{arith, rules}
 use Rattle.std.proofs.lemmas.Grind.{common_steps}
 use Rattle.db_store.proofs.store.Store.begin.Goals as goal
 
@@ -16,3 +16,6 @@ returns-in_err-journal-clause-no_rows g c = grind (arith, common_steps)
 
 pub returns-clause-untouched : goal.returns-clause-untouched
 returns-clause-untouched g c = grind (arith, common_steps)
+
+pub returns-clause-opened : goal.returns-clause-opened
+returns-clause-opened g c = (c.in_ok-journal.bodies, search rules, search rules)

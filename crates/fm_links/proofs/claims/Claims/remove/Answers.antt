@@ -7,5 +7,5 @@ use Rattle.fm_links.proofs.claims.Claims.remove.Goals as goal
 
 pub returns-clause-claims : goal.returns-clause-claims
 returns-clause-claims c =
-    removed (pointwise nat_eq) bytes-tie c.self.inside.entries.entries c.swap_remove.new.self.entries c.args.path.now c.swap_remove.ensures.updates.0
+    removed (pointwise nat_eq) bytes-tie c.self.inside.entries.entries c.remove.new.self.entries c.args.path.now c.remove.ensures.updates.0
     ∙ ap (λ (t : ClaimTable). maps.remove t.claims c.args.path.now) c.self.view_is
