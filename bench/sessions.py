@@ -16,7 +16,8 @@ those of 1,000 rows, of 100,000 and of SQLite taken in turn, and of up to four t
 Printed are, for INSERTs, and UPDATEs, DELETEs and SELECTs by key, that are transactions of their own, and for BEGIN, ten statements and
 COMMIT: the time of one, the ratio of 100,000 rows to 1,000, and the ratio to SQLite's time; from `strace`, what a commit calls beside
 what it takes of memory and the telling of its answer; and what is opened in a second, of a folder whose rows came in few commits and of
-one with a commit for each row. It ends with status 1 where a bound is broken: in memory 100,000 rows cost at most 1.5 times what 1,000
+one with a commit for each row; and the time of an INSERT that is a transaction of its own, in memory, in folders of few tables and of
+many. It ends with status 1 where a bound is broken: in memory 100,000 rows cost at most 1.5 times what 1,000
 do, a commit makes six calls on the area Rows and no other call, a SELECT makes none, and on a disk the time of what commits is at most
 2.5 times SQLite's. Where there is no disk or no `strace`, it says so. On a machine that does other work too, the times on a disk say
 little.
@@ -41,6 +42,7 @@ POLL = 0.0001
 GROWTH = 1.5
 OF_SQLITE = 2.5
 TUPLES = 1_000
+TABLES = (1, 10, 50, 100, 250)
 IN_A_ROW = 500
 COLUMNS = "(id INTEGER PRIMARY KEY, v INTEGER, s VARCHAR(20))"
 MARK = "@nobody read /nothing"
@@ -430,6 +432,18 @@ def openings(words, rows, made, how):
     print("  %d rows in %s: %.1f MB in %.3f s, %.3f s of the processor, %.1f MB a second%s" % (rows, how, size / 1e6, best, used, size / 1e6 / best, shown), flush=True)
 
 
+def among_tables(words):
+    """An INSERT that is a transaction of its own beside so many other tables, in memory."""
+    for count in TABLES:
+        made = filled(words.program, in_session([("CREATE TABLE t%d " % i + COLUMNS, "ok") for i in range(count - 1)] + table(0)))
+        try:
+            cost = Cost(words.program, made, in_memory(), in_session(inserts(IN_A_ROW, words.many)), IN_A_ROW)
+            took = min(cost.round().seconds() for _ in range(words.runs)) / IN_A_ROW
+        finally:
+            shutil.rmtree(made)
+        print("  an INSERT in a folder of %d table%s: %.1f us" % (count, "s" * (count > 1), took * 1e6), flush=True)
+
+
 def read_words():
     words = argparse.ArgumentParser(description="Statements of sessions beside SQLite.")
     words.add_argument("--program", help="the built program, where it stands elsewhere")
@@ -472,6 +486,8 @@ def main():
         single = filled(words.program, in_session(table(0) + [("INSERT INTO t VALUES " + tuples(i, i + 1), "ok 1") for i in range(words.many)]))
         made.append(single)
         openings(words, words.many, single, "a commit each")
+        print("among tables, in memory:", flush=True)
+        among_tables(words)
     finally:
         for folder in made:
             shutil.rmtree(folder)
