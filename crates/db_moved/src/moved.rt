@@ -16,9 +16,9 @@ use sql_table::{Table, Tables};
 use std::alloc::Global;
 
 /// What a copy gives and what it takes: the links of the base whose numbers the copy lacks, and the links of the copy whose numbers
-/// the base lacks, tables in order, their rows in order and the columns of a row in order. Of tables that both have only the touched
-/// rows are looked at, and of all others each row; each of their links costs a look for its number in each table of the other side.
-/// The error is want of memory.
+/// the base lacks, tables in order, their rows in order and the columns of a row in order. Of tables without a column under link
+/// control no row is looked at, of others that both have the touched rows alone, and of all others each row; each of their links costs
+/// a look for its number in each table of the other side. The error is want of memory.
 pub fn moved_links(
     alloc: Global,
     base: &Tables,
@@ -53,7 +53,7 @@ fn lacking(
     Ok(made)
 }
 
-// Puts the links of a table whose numbers others lack.
+// Puts the links of a table whose numbers others lack. No row is looked at where no column is under link control.
 fn put_lacking(
     made: &mut List<LinkRow>,
     name: &Name,
@@ -64,6 +64,9 @@ fn put_lacking(
     requires { StaysIn touched.now name.now table.now others.now }
     ensures { OnOk result (made.new ≡ made.old ++ meant.lacking (meant.table_links table.now) (meant.links others.now)) }
 {
+    if !has_linked(table.columns()) {
+        return Ok(());
+    }
     match others.table(name) {
         Some(other) => {
             if is_kept(table, other) {
@@ -135,17 +138,6 @@ fn put_lacking_at(
     }
 }
 
-// Puts the links of all rows of a table whose numbers others lack. No row is looked at where no column is under link control.
-fn put_all(made: &mut List<LinkRow>, table: &Table, others: &Tables) -> Result<(), Memory>
-    ensures { OnOk result (made.new ≡ made.old ++ meant.lacking (meant.table_links table.now) (meant.links others.now)) }
-{
-    if has_linked(table.columns()) {
-        put_each(made, table, others)
-    } else {
-        Ok(())
-    }
-}
-
 // Whether a column is under link control.
 fn has_linked(columns: &List<Column>) -> bool
     ensures { result ≡ list_any (λ c. is_linked c.kind) columns.now }
@@ -167,7 +159,8 @@ fn is_linked(kind: Kind) -> bool
     }
 }
 
-fn put_each(made: &mut List<LinkRow>, table: &Table, others: &Tables) -> Result<(), Memory>
+// Puts the links of all rows of a table whose numbers others lack.
+fn put_all(made: &mut List<LinkRow>, table: &Table, others: &Tables) -> Result<(), Memory>
     ensures { OnOk result (made.new ≡ made.old ++ meant.lacking (meant.table_links table.now) (meant.links others.now)) }
 {
     for i in 0..table.len() {

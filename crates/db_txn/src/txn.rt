@@ -201,8 +201,8 @@ impl Txn {
     }
 
     /// The links that the transaction gives and those that it takes, in the order of tables, rows and columns. The error is want of
-    /// memory. Of tables that both have only the rows that its statements touched are looked at, so the cost is n log n in the
-    /// number of tables, and grows with the touched rows, and with the rows of new tables and of dropped ones.
+    /// memory. The cost is n log n in the number of tables. Of those with a column under link control it grows with the rows that its
+    /// statements touched, and with the rows of new tables and of dropped ones; no row of another table is looked at.
     pub fn moved(&self) -> Result<(List<LinkRow>, List<LinkRow>), Memory>
         ensures { IfOk result (λ made. (made.0 ≡ gives self.now.base self.now.copy) × (made.1 ≡ takes self.now.base self.now.copy)) }
     {

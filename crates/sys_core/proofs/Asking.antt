@@ -5,20 +5,20 @@ use Rattle.db_txn.specs.Transaction.{Transaction}
 use Rattle.dl_base.specs.declared.answer.Refusal.{Refusal}
 use Rattle.dl_base.specs.declared.value.LinkRow.{LinkRow}
 use Rattle.meaning_tables.specs.Links.{gives, takes}
-use Rattle.sys_core.specs.Claiming.{EndsClaim, HasClaimed, claim_refusal_in, claims_same, is_unasked, was_refused}
+use Rattle.sys_core.specs.Claiming.{EndsClaim, HasClaimed, claim_refusal_in, claims_same, is_unasked, left_tables}
 use Rattle.sys_core.specs.declared.engine.Engine.{Engine}
 
-module _ (w : Engine) (tx : ℕ) (v : Transaction) (r : Bool) (refused : r ≡ was_refused v.kept) where
-  -- the evaluation was refused
-  pub ends-refused : r ≡ true → EndsClaim w w tx v None
-  ends-refused e = inl (record {
-    unasked = ap (λ b. b || claims_same (gives v.base v.copy) (takes v.base v.copy) (maps.get w.seats tx)) (sym refused ∙ e);
+module _ (w : Engine) (tx : ℕ) (v : Transaction) (r : Bool) (left : r ≡ left_tables v.kept) where
+  -- the evaluation left the tables as they were
+  pub ends-left : r ≡ true → EndsClaim w w tx v None
+  ends-left e = inl (record {
+    unasked = ap (λ b. b || claims_same (gives v.base v.copy) (takes v.base v.copy) (maps.get w.seats tx)) (sym left ∙ e);
     same = refl;
   })
 
   module _ (given taken : List LinkRow) (gives_is : given ≡ gives v.base v.copy) (takes_is : taken ≡ takes v.base v.copy) (m : Bool) (alike : m ≡ claims_same given taken (maps.get w.seats tx)) where
     asks : is_unasked w tx v ≡ (r || m)
-    asks = λ i. sym refused i || (sym alike-all i)
+    asks = λ i. sym left i || (sym alike-all i)
       where
         alike-all : m ≡ claims_same (gives v.base v.copy) (takes v.base v.copy) (maps.get w.seats tx)
         alike-all = alike ∙ (λ j. claims_same (gives_is j) (takes_is j) (maps.get w.seats tx))

@@ -1,5 +1,5 @@
 -- A STATEMENT by what its evaluation and its claim have come to.
-use Rattle.std.proofs.Common.{◌≡◌, ◌≢◌, ⊎_elim, ℕ, ◌+◌, ◌≤◌, Bool, true, false, cond, ◌&&◌, ◌||◌, List, [], length, Option, Some, None, Result, Ok, Err, refl, sym, ◌∙◌, ap, subst, arith}
+use Rattle.std.proofs.Common.{◌≡◌, ◌≢◌, ⊎_elim, ℕ, ◌+◌, ◌≤◌, Bool, true, false, cond, ◌&&◌, ◌||◌, List, [], ◌∷◌, length, Option, Some, None, Result, Ok, Err, refl, sym, ◌∙◌, ap, subst, arith}
 use Rattle.std.proofs.lemmas.Bool.{or_parts}
 use Rattle.std.specs.Cmp.Lexicographic.{pointwise}
 use Rattle.std.specs.FinMap as maps
@@ -22,6 +22,7 @@ use Rattle.fm_links.specs.Claims.{ClaimTable, PathClaim, moved}
 use Rattle.fm_links.specs.Searching.{AreClaims}
 use Rattle.fm_links.specs.Stepping.{claimed_in, replaced}
 use Rattle.meaning_areas.proofs.Tables.{get-here, get-there}
+use Rattle.meaning_areas.proofs.Votes.{link-self}
 use Rattle.meaning_areas.specs.Lists.{Folds, folds_on}
 use Rattle.meaning_areas.specs.Same.{same_link}
 use Rattle.meaning_history.specs.Sound.{AreSound}
@@ -42,12 +43,15 @@ use Rattle.meaning_tables.specs.Links.{gives, takes}
 use Rattle.meaning_tables.specs.Tables.{Tables}
 use Rattle.sql_run.specs.Outcomes as run
 use Rattle.sql_run.specs.Outcomes.{answer_of}
+use Rattle.sql_run.specs.declared.evaluating.Outcome.{Outcome}
+use Rattle.sql_run.specs.declared.evaluating.Outcome.TheVariants as outcomes
+use Rattle.sys_core.proofs.Awaiting.{false_true}
 use Rattle.sys_core.proofs.Behind.{EachLeads, IsNoRestore, behind-sound}
 use Rattle.sys_core.proofs.Claiming.{BusyIsFound, LinkedIsFound, claim-is}
 use Rattle.sys_core.proofs.Ended.{SeatsPut}
 use Rattle.sys_core.proofs.Knowing.{Knows, put-txn}
 use Rattle.sys_core.proofs.Seating.{pieces-kept, seat-moved, seat-of, seated-but}
-use Rattle.sys_core.specs.Claiming.{EndsClaim, HasSameClaims, IsAccepted, IsDenied, IsUnasked, claims_same, claims_with, is_unasked, opening_in, seat_claim, told_of}
+use Rattle.sys_core.specs.Claiming.{EndsClaim, HasSameClaims, IsAccepted, IsDenied, IsUnasked, claims_same, claims_with, is_unasked, leaves_tables, opening_in, seat_claim, told_of}
 use Rattle.sys_core.specs.Seated.{IsAtStage, IsSeat, IsSeatOf, shown_by}
 use Rattle.sys_core.specs.Standing.{IsOf}
 use Rattle.sys_core.specs.Steps.{Answers, Shows, StepsInMemory, records_of}
@@ -105,26 +109,40 @@ ok_err x e is = cc
 fault_same : {T : Type 0} (x y : StepFault) → ◌≡◌ {A = Result T StepFault} (Err x) (Err y) → x ≡ y
 fault_same x y is = cc
 
--- A REFUSED EVALUATION leaves tables and numbers as they were
+-- AN EVALUATION THAT IS REFUSED, and a query's, leaves tables and numbers as they were
 
-counted-same : (tables : Tables) (k : ℕ) (r : Result Changed SqlFault) → is_refused (run.after_change tables k run.counted r).outcome ≡ true → ((run.after_change tables k run.counted r).tables ≡ tables) × ((run.after_change tables k run.counted r).next ≡ k)
+counted-same : (tables : Tables) (k : ℕ) (r : Result Changed SqlFault) → leaves_tables (run.after_change tables k run.counted r).outcome ≡ true → ((run.after_change tables k run.counted r).tables ≡ tables) × ((run.after_change tables k run.counted r).next ≡ k)
 counted-same tables k (Ok made) e = absurd cc
 counted-same tables k (Err fault) e = (refl, refl)
 
-done-same : (tables : Tables) (k : ℕ) (r : Result Changed SqlFault) → is_refused (run.after_change tables k run.done r).outcome ≡ true → ((run.after_change tables k run.done r).tables ≡ tables) × ((run.after_change tables k run.done r).next ≡ k)
+done-same : (tables : Tables) (k : ℕ) (r : Result Changed SqlFault) → leaves_tables (run.after_change tables k run.done r).outcome ≡ true → ((run.after_change tables k run.done r).tables ≡ tables) × ((run.after_change tables k run.done r).next ≡ k)
 done-same tables k (Ok made) e = absurd cc
 done-same tables k (Err fault) e = (refl, refl)
 
-refused-same : (tables : Tables) (stmt : Stmt) (context : Context) (k : ℕ) → is_refused (run.evaluated tables stmt context k).outcome ≡ true → ((run.evaluated tables stmt context k).tables ≡ tables) × ((run.evaluated tables stmt context k).next ≡ k)
-refused-same tables (statements.CreateTable name columns) context k e = done-same tables k (change tables (statements.CreateTable name columns) context k) e
-refused-same tables (statements.DropTable name) context k e = done-same tables k (change tables (statements.DropTable name) context k) e
-refused-same tables (statements.Insert name names tuples) context k e = counted-same tables k (change tables (statements.Insert name names tuples) context k) e
-refused-same tables (statements.Update name sets filter) context k e = counted-same tables k (change tables (statements.Update name sets filter) context k) e
-refused-same tables (statements.Delete name filter) context k e = counted-same tables k (change tables (statements.Delete name filter) context k) e
-refused-same tables (statements.Select query) context k e = (refl, refl)
-refused-same tables statements.Begin context k e = (refl, refl)
-refused-same tables statements.Commit context k e = (refl, refl)
-refused-same tables statements.Rollback context k e = (refl, refl)
+left-same : (tables : Tables) (stmt : Stmt) (context : Context) (k : ℕ) → leaves_tables (run.evaluated tables stmt context k).outcome ≡ true → ((run.evaluated tables stmt context k).tables ≡ tables) × ((run.evaluated tables stmt context k).next ≡ k)
+left-same tables (statements.CreateTable name columns) context k e = done-same tables k (change tables (statements.CreateTable name columns) context k) e
+left-same tables (statements.DropTable name) context k e = done-same tables k (change tables (statements.DropTable name) context k) e
+left-same tables (statements.Insert name names tuples) context k e = counted-same tables k (change tables (statements.Insert name names tuples) context k) e
+left-same tables (statements.Update name sets filter) context k e = counted-same tables k (change tables (statements.Update name sets filter) context k) e
+left-same tables (statements.Delete name filter) context k e = counted-same tables k (change tables (statements.Delete name filter) context k) e
+left-same tables (statements.Select query) context k e = (refl, refl)
+left-same tables statements.Begin context k e = (refl, refl)
+left-same tables statements.Commit context k e = (refl, refl)
+left-same tables statements.Rollback context k e = (refl, refl)
+
+-- where it changes them it is not refused
+unrefused : (o : Outcome) → leaves_tables o ≡ false → is_refused o ≡ false
+unrefused (outcomes.Changed count) e = refl
+unrefused (outcomes.Rows grid) e = refl
+unrefused outcomes.Done e = refl
+unrefused (outcomes.Refused fault) e = absurd cc
+
+links-self : (ls : List LinkRow) → pointwise same_link ls ls ≡ true
+links-self [] = refl
+links-self (l ∷ ls) = rw (link-self l) (links-self ls)
+
+moved-self : (m : Moved) → same_moved m m ≡ true
+moved-self m = rw (links-self m.gives) (links-self m.takes)
 
 -- SEATS
 
@@ -271,23 +289,28 @@ module _ (laws : Laws) (first : ℕ) (s : State) (w : Engine) (is : IsOf first w
       ∙ (λ i. pointwise same_link (own.2.gives i) (gives t.base e.tables) && pointwise same_link (own.2.takes i) (takes t.base e.tables))
 
   when-unasked : is_unasked w tx v ≡ true → Answers first asked s w answer × (standing v ≡ shown_by session (txn_of (step s asked).1 session))
-  when-unasked e1 = by refused refl (claims_same (gives t.base e.tables) (takes t.base e.tables) (maps.get w.seats tx)) refl e1
+  when-unasked e1 = by refused refl (leaves_tables e.outcome) refl (claims_same (gives t.base e.tables) (takes t.base e.tables) (maps.get w.seats tx)) refl e1
     where
-      by : (r : Bool) → refused ≡ r → (m : Bool) → claims_same (gives t.base e.tables) (takes t.base e.tables) (maps.get w.seats tx) ≡ m → (r || m) ≡ true
+      alike : refused ≡ false → same ≡ true → Answers first asked s w answer × (standing v ≡ shown_by session (txn_of (step s asked).1 session))
+      alike r m = (stays answer after (made-same r m) refl refl (moved-same before after m), shows answer after (made-same r m))
+
+      by : (r : Bool) → refused ≡ r → (l : Bool) → leaves_tables e.outcome ≡ l → (m : Bool) → claims_same (gives t.base e.tables) (takes t.base e.tables) (maps.get w.seats tx) ≡ m → (l || m) ≡ true
           → Answers first asked s w answer × (standing v ≡ shown_by session (txn_of (step s asked).1 session))
-      by true r m c any =
-          let kept = refused-same t.copy stmt (context_of s tx) t.next r in
+      by true r true l m c any =
+          let kept = left-same t.copy stmt (context_of s tx) t.next l in
           (stays answer before (made-refused r) refl refl refl, (λ i. shown_by session (Some (tx, record before { copy = kept.0 i; next = kept.1 i }))) ∙ shows answer before (made-refused r))
-      by false r true c any =
-          let m : same ≡ true = sym claims-alike ∙ c in
-          (stays answer after (made-same r m) refl refl (moved-same before after m), shows answer after (made-same r m))
-      by false r false c any = absurd cc
+      by true r false l m c any = absurd (false_true (sym (unrefused e.outcome l) ∙ r))
+      by false r true l m c any =
+          let kept = left-same t.copy stmt (context_of s tx) t.next l in
+          alike r (ap (λ (x : Moved). same_moved (moved_of before) x) (λ i. moved_of (record before { copy = kept.0 i; next = kept.1 i })) ∙ moved-self (moved_of before))
+      by false r false l true c any = alike r (sym claims-alike ∙ c)
+      by false r false l false c any = absurd cc
 
   -- where it is
   asks : is_unasked w tx v ≡ false → (refused ≡ false) × (same ≡ false)
   asks e1 =
-      let two = or_parts refused (claims_same (gives t.base e.tables) (takes t.base e.tables) (maps.get w.seats tx)) e1 in
-      (two.0, sym claims-alike ∙ two.1)
+      let two = or_parts (leaves_tables e.outcome) (claims_same (gives t.base e.tables) (takes t.base e.tables) (maps.get w.seats tx)) e1 in
+      (unrefused e.outcome two.0, sym claims-alike ∙ two.1)
 
   when-denied : (why : Refusal) → IsDenied w w tx v why → Answers first asked s w (answers.Refused why) × (back_to v v.kept ≡ shown_by session (txn_of (step s asked).1 session))
   when-denied why d =

@@ -6,7 +6,7 @@ use Rattle.std.specs.FinMap as maps
 use Rattle.std.specs.Map.{lookup}
 use Rattle.std.specs.Option.{option_map}
 use Rattle.std.specs.Ordering.{nat_cmp}
-use Rattle.db_txn.specs.Transaction.{Kept, Transaction, is_refused}
+use Rattle.db_txn.specs.Transaction.{Kept, Transaction}
 use Rattle.dl_base.specs.declared.answer.Answer.{Answer}
 use Rattle.dl_base.specs.declared.answer.Answer.TheVariants as answers
 use Rattle.dl_base.specs.declared.answer.ClaimRefusal.TheVariants as denials
@@ -27,6 +27,8 @@ use Rattle.meaning_system.specs.State.{Txn}
 use Rattle.meaning_tables.specs.Links.{gives, takes}
 use Rattle.meaning_tables.specs.Tables.{Tables}
 use Rattle.sql_run.specs.Outcomes.{answer_of}
+use Rattle.sql_run.specs.declared.evaluating.Outcome.{Outcome}
+use Rattle.sql_run.specs.declared.evaluating.Outcome.TheVariants as outcomes
 use Rattle.sys_core.specs.Guarded.{claim_in, committed_in}
 use Rattle.sys_core.specs.Seated.{is_doomed_at}
 use Rattle.sys_core.specs.declared.engine.Engine.{Engine}
@@ -34,11 +36,19 @@ use Rattle.sys_seats.specs.Seats.{with_claim}
 use Rattle.sys_seats.specs.declared.seat.Seat.{Seat}
 use Rattle.sys_seats.specs.declared.seat.SeatClaim.{SeatClaim}
 
--- whether the last evaluation was refused, and what is answered of it; Done where none is kept
+-- whether an evaluation leaves the tables as they were, as one that is refused and that of a query do
 
-abbrev pub was_refused : Option Kept → Bool
-was_refused None = false
-was_refused (Some k) = is_refused k.outcome
+abbrev pub leaves_tables : Outcome → Bool
+leaves_tables (outcomes.Changed count) = false
+leaves_tables (outcomes.Rows grid) = true
+leaves_tables outcomes.Done = false
+leaves_tables (outcomes.Refused fault) = true
+
+-- whether the last evaluation did, and what is answered of it; Done where none is kept
+
+abbrev pub left_tables : Option Kept → Bool
+left_tables None = false
+left_tables (Some k) = leaves_tables k.outcome
 
 abbrev pub told_of : Option Kept → Answer
 told_of None = answers.Done
@@ -127,9 +137,9 @@ abbrev pub claims_same : List LinkRow → List LinkRow → Option Seat → Bool
 claims_same given taken None = false
 claims_same given taken (Some x) = pointwise same_link x.claim.gives given && pointwise same_link x.claim.takes taken
 
--- nothing is asked where the last evaluation was refused, or altered no link
+-- nothing is asked where the last evaluation left the tables as they were, or altered no link
 abbrev pub is_unasked : Engine → ℕ → Transaction → Bool
-is_unasked w tx v = was_refused v.kept || claims_same (gives v.base v.copy) (takes v.base v.copy) (maps.get w.seats tx)
+is_unasked w tx v = left_tables v.kept || claims_same (gives v.base v.copy) (takes v.base v.copy) (maps.get w.seats tx)
 
 -- the claims with other ones of a transaction in the place of those that it had
 abbrev pub claims_with : ℕ → Moved → Option Seat → Keyed PathClaim → Keyed PathClaim

@@ -2,11 +2,10 @@
 ghost use Rattle.std.specs.Prelude.{◌≡◌, IfOk, OnErr, OnOk};
 ghost use Rattle.std.specs.Cmp.Lexicographic.{pointwise};
 ghost use Rattle.std.specs.FinMap as maps;
-ghost use Rattle.db_txn.specs.Transaction.{is_refused};
 ghost use Rattle.fm_links.specs.Claims.{moved};
 ghost use Rattle.meaning_areas.specs.Same.{same_link};
 ghost use Rattle.meaning_system.specs.Claims.{first_seen};
-ghost use Rattle.sys_core.specs.Claiming.{EndsClaim, HasClaimed, HasSameClaims, claims_same, claims_with, opening_in, seen_at, was_refused};
+ghost use Rattle.sys_core.specs.Claiming.{EndsClaim, HasClaimed, HasSameClaims, claims_same, claims_with, leaves_tables, left_tables, opening_in, seen_at};
 
 use crate::engine::Engine;
 use db_txn::Txn;
@@ -17,14 +16,14 @@ use sys_seats::{SeatClaim, Seats};
 
 impl Engine {
     // Claims what a transaction gives and takes after its last evaluation, in the place of what it has claimed, and tells why it may not.
-    // Nothing is asked where the evaluation was refused, or where the transaction claims the same links already. The error is want of
-    // memory, after which the claims are as they were. It costs what `moved` of `Txn` does, n log n of the links named, and nothing of
-    // the claims of others.
+    // Nothing is asked where the evaluation left the tables as they were, or where the transaction claims the same links already. The
+    // error is want of memory, after which the claims are as they were. Where the evaluation changed the tables it costs what `moved` of
+    // `Txn` does, n log n of the links named, and nothing of the claims of others.
     pub(crate) fn claim(&mut self, txn: &Txn, tx: u64) -> Result<Option<Refusal>, Memory>
         ensures ends { IfOk result (EndsClaim self.old self.new tx txn.now) }
         ensures memory { OnErr result (HasSameClaims self.old self.new) }
     {
-        if was_refused(txn) {
+        if left_tables(txn) {
             return Ok(None);
         }
         let (gives, takes) = txn.moved()?;
@@ -114,23 +113,23 @@ fn are_same(some: &List<LinkRow>, others: &List<LinkRow>) -> bool
     some.same(others)
 }
 
-// Whether the last evaluation of a transaction was refused.
-fn was_refused(txn: &Txn) -> bool
-    ensures { result ≡ was_refused txn.now.kept }
+// Whether the last evaluation of a transaction left its tables as they were.
+fn left_tables(txn: &Txn) -> bool
+    ensures { result ≡ left_tables txn.now.kept }
 {
     match txn.outcome() {
-        Some(outcome) => is_refused(outcome),
+        Some(outcome) => leaves_tables(outcome),
         None => false,
     }
 }
 
-fn is_refused(outcome: &Outcome) -> bool
-    ensures { result ≡ is_refused outcome.now }
+fn leaves_tables(outcome: &Outcome) -> bool
+    ensures { result ≡ leaves_tables outcome.now }
 {
     match outcome {
-        Outcome::Refused(_) => true,
         Outcome::Changed(_) => false,
-        Outcome::Rows(_) => false,
+        Outcome::Rows(_) => true,
         Outcome::Done => false,
+        Outcome::Refused(_) => true,
     }
 }

@@ -21,7 +21,8 @@ impl Engine {
     /// Evaluates a statement on the copy of a session's transaction, and claims the links that it gives and takes, where it altered them.
     /// A statement that is refused leaves the copy as it was; its tables are named all the same. It is refused NoTransaction, WrongPhase,
     /// as plain SQL, or as a claim: Doomed, Conflict, and NoFile, AlreadyLinked or Busy on the first link that is so. The only error is
-    /// want of memory, after which all is as it was.
+    /// want of memory, after which all is as it was. It costs what `evaluate` of `Txn` does and, where that changed the tables, what
+    /// `moved` does; where it altered a link, n log n of the links that the transaction gives and takes.
     pub fn statement(&mut self, txn: &mut Txn, stmt: &Stmt) -> Result<Answer, StepFault>
         requires plain { is_evaluated stmt.now ≡ true }
         requires stands { (first : ℕ) × (s : State) × IsOf first self.old s × HasTxn s txn.old }

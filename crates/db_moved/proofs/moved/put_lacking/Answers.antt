@@ -1,5 +1,10 @@
-use Rattle.db_moved.proofs.Moving.{stayed}
+use Rattle.meaning_tables.specs.Links.{links}
+use Rattle.db_moved.proofs.Moving.{none-linked, stayed}
 use Rattle.db_moved.proofs.moved.put_lacking.Goals as goal
+
+pub returns-then-not-has_linked : goal.returns-then-not-has_linked
+returns-then-not-has_linked c =
+    none-linked c.args.made.now (links c.args.others.now) c.args.table.now c.columns.result.now c.has_linked.result c.columns.ensures c.has_linked.ensures c.if-not-has_linked.true
 
 pub put_touched-requires : goal.put_touched-requires
 put_touched-requires c =
