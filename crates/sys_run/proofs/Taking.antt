@@ -1,10 +1,10 @@
 -- A turn of a line that is built, as it is taken.
-use Rattle.std.proofs.Common.{◌≡◌, ◌≢◌, ℕ, ◌+◌, true, false, List, [], ◌∷◌, ◌++◌, length, slice_get, Option, Some, None, Result, Ok, Err, OnOk, refl, sym, ap, ◌∙◌, subst}
+use Rattle.std.proofs.Common.{◌≡◌, ◌≢◌, ℕ, ◌+◌, true, false, List, [], ◌∷◌, ◌++◌, length, slice_get, Option, Some, None, Result, Ok, Err, IfOk, IsErr, IsErrAnd, OnOk, refl, sym, ap, ◌∙◌, subst}
 use Rattle.db_txn.specs.Transaction.{Transaction}
 use Rattle.dl_areas.specs.Lists.{AreKept, AreReady, Lists}
 use Rattle.dl_areas.specs.Writing.{IsTelling}
 use Rattle.dl_base.proofs.Moments.{moments_more}
-use Rattle.dl_base.specs.Outside.{AtEveryMoment, Outside, extended}
+use Rattle.dl_base.specs.Outside.{AtEveryMoment, FaultCounted, Outside, extended}
 use Rattle.dl_base.specs.declared.answer.Answer.{Answer}
 use Rattle.dl_base.specs.declared.fault.Full.{Full}
 use Rattle.dl_base.specs.declared.fault.StepFault.{StepFault}
@@ -43,6 +43,33 @@ full-no-memory result f is e = absurd cc
 -- one fault in two results
 pub same-fault : {A : Type 0} {X : Type 0} (result : Result A StepFault) (now : Result X StepFault) (g f : StepFault) → result ≡ Err g → now ≡ Err g → now ≡ Err f → result ≡ Err f
 same-fault result now g f was is full = cc
+
+-- a fault that is handed on
+pub handed : {A : Type 0} (result : Result A StepFault) (f : StepFault) → IsErr result × IsErrAnd result (λ e. e ≡ f) → result ≡ Err f
+handed (Ok a) f (fails, same) = absurd same
+handed (Err e) f (fails, same) = ap (λ (x : StepFault). Err x) same
+
+-- what a fault says of an answer
+pub on-err : {A E : Type 0} (result : Result A E) (e : E) (P : A → Type 0) → result ≡ Err e → IfOk result P
+on-err (Ok a) e P is = absurd cc
+on-err (Err f) e P is = tt
+
+-- want of memory is no other fault, and an answer is none
+pub no-device : {A : Type 0} {X : Type 0} (result : Result A StepFault) → result ≡ Err faults.Memory → result ≡ Err faults.Device → X
+no-device result is e = absurd cc
+
+pub no-full : {A : Type 0} {X : Type 0} (result : Result A StepFault) (f : Full) → result ≡ Err faults.Memory → result ≡ Err (faults.Full f) → X
+no-full result f is e = absurd cc
+
+pub no-fault : {A : Type 0} {X : Type 0} (a : A) (f : StepFault) → Ok a ≡ Err f → X
+no-fault a f e = absurd cc
+
+-- a step that the device failed counted a fault
+pub steps-device : (first : ℕ) (x : Step) (s : State) (w v : Engine) (result : Result Answer StepFault) (o n : Outside) → result ≡ Err faults.Device → Steps first x s w v result o n → FaultCounted o n
+steps-device first x s w v (Ok b) o n is t = absurd cc
+steps-device first x s w v (Err faults.Device) o n is t = t.ends.device refl
+steps-device first x s w v (Err faults.Memory) o n is t = absurd cc
+steps-device first x s w v (Err (faults.Full f)) o n is t = absurd cc
 
 -- a step that is answered counted no fault
 pub steps-clean : (first : ℕ) (x : Step) (s : State) (w v : Engine) (result : Result Answer StepFault) (a : Answer) (o n : Outside) → result ≡ Ok a → Steps first x s w v result o n → n.faults ≡ o.faults
