@@ -1,6 +1,6 @@
 #!/usr/bin/env python3
-"""Runs the built program where its surroundings fail: closed streams, a folder that another run has, a kill, a full disk,
-output that nobody takes, and each end that has a status of its own. It looks at the status, at what was told, and at what
+"""Runs the built program where its surroundings fail: closed streams, a folder that another run has, areas that are no
+files of their own, a kill, a full disk, output that nobody takes, and each end that has a status of its own. It looks at the status, at what was told, and at what
 stands in the files of the five areas afterwards. Prints a line for each, and ends with 1 where one is not as it should be.
 
     bench/streams.py [PROGRAM]
@@ -8,6 +8,7 @@ stands in the files of the five areas afterwards. Prints a line for each, and en
 import fcntl
 import os
 import resource
+import shutil
 import signal
 import subprocess
 import sys
@@ -178,6 +179,79 @@ def locked_folder():
         check("two at once: what the first told is there", acknowledged(folder, told_first))
 
 
+def refused_area(name, change, undo=None):
+    """A folder of one run, where something else then stands in the place of an area: the next run is to refuse it."""
+    with tempfile.TemporaryDirectory() as folder:
+        with_file(folder)
+        change(folder)
+        old = None if undo else content(folder)
+        status, told, complaint = run(folder, creates(3))
+        check(f"{name}: status 3, nothing told", (status, told) == (3, b""), (status, told))
+        check(f"{name}: its line on standard error", complaint == b"datalinks: status 3\n", complaint)
+        if undo:
+            undo(folder)
+            check(f"{name}: the areas have what they had", reads_again(folder))
+        else:
+            check(f"{name}: nothing written", content(folder) == old)
+
+
+def shared_areas():
+    def in_place_of(make, old, new):
+        def change(folder):
+            os.remove(os.path.join(folder, old))
+            make(os.path.join(folder, new) if make is os.link else new, os.path.join(folder, old))
+
+        return change
+
+    for old, new in ((AREAS[1], AREAS[0]), (AREAS[3], AREAS[4])):
+        refused_area(f"{old} is a second name of {new}", in_place_of(os.link, old, new))
+        refused_area(f"{old} is a symbolic link to {new}", in_place_of(os.symlink, old, new))
+    with tempfile.TemporaryDirectory() as elsewhere:
+        refused_area("an area has a second name in another folder", lambda folder: os.link(os.path.join(folder, AREAS[2]), os.path.join(elsewhere, AREAS[2])))
+
+    def to_fifo(folder):
+        os.rename(os.path.join(folder, AREAS[3]), os.path.join(folder, "kept"))
+        os.mkfifo(os.path.join(folder, AREAS[3]))
+
+    def from_fifo(folder):
+        os.rename(os.path.join(folder, "kept"), os.path.join(folder, AREAS[3]))
+
+    refused_area("an area is a FIFO", to_fifo, from_fifo)
+    with tempfile.TemporaryDirectory() as elsewhere:
+        image = os.path.join(elsewhere, "image")
+        with open(image, "wb") as file:
+            file.truncate(1 << 20)
+        made = shutil.which("losetup") and subprocess.run(["losetup", "--show", "-f", image], stdout=subprocess.PIPE, stderr=subprocess.DEVNULL)
+        if not made or made.returncode:
+            print("     an area that is a block device: left out, since none can be made here")
+            return
+        device = made.stdout.decode().strip()
+        try:
+            refused_area("an area is a block device", in_place_of(os.symlink, AREAS[3], device))
+        finally:
+            subprocess.run(["losetup", "-d", device])
+
+
+def folders_of_one_store():
+    """Two folders whose areas are symbolic links to the same files. The first run is held in its telling, by a pipe that has no room."""
+    with tempfile.TemporaryDirectory() as store, tempfile.TemporaryDirectory() as one, tempfile.TemporaryDirectory() as other:
+        for folder in (one, other):
+            for area in AREAS:
+                os.symlink(os.path.join(store, area), os.path.join(folder, area))
+        first = subprocess.Popen([PROGRAM, "run"], cwd=one, stdin=subprocess.PIPE, stdout=subprocess.PIPE)
+        fcntl.fcntl(first.stdout, fcntl.F_SETPIPE_SZ, 4096)
+        first.stdin.write(creates(3000))
+        first.stdin.close()
+        began = first.stdout.readline()
+        status, told, _ = run(other, creates(3))
+        check("two folders of one store: the second run has status 3 and tells nothing", (status, told) == (3, b""), (status, told))
+        told_first = began + first.stdout.read()
+        first.wait()
+        check("two folders of one store: the first run tells each line", first.returncode == 0 and told_first.count(b": ok\n") == 3000)
+        check("two folders of one store: what the first told is there for both", acknowledged(one, told_first) and acknowledged(other, told_first))
+        check("two folders of one store: the links stay", all(os.path.islink(os.path.join(f, a)) for f in (one, other) for a in AREAS))
+
+
 def told_until_killed(folder, script, lines):
     """The whole lines that a run told which was killed when it had told so many."""
     process = subprocess.Popen([PROGRAM, "run"], cwd=folder, stdin=subprocess.PIPE, stdout=subprocess.PIPE)
@@ -235,7 +309,7 @@ def lost_output():
             os.close(reading)
             status, _, _ = run(folder, READ, stdout=writing, restore_signals=restore)
             os.close(writing)
-            check(f"a pipe that nobody reads, SIGPIPE {name}: not 0", status in (3, -signal.SIGPIPE), status)
+            check(f"a pipe that nobody reads, SIGPIPE {name}: status 3", status == 3, status)
             check(f"a pipe that nobody reads, SIGPIPE {name}: the areas have what they had", extends(old, content(folder)) and reads_again(folder))
 
 
@@ -270,6 +344,8 @@ def statuses():
 
 closed_streams()
 locked_folder()
+shared_areas()
+folders_of_one_store()
 killed()
 full_disk()
 lost_output()

@@ -1,5 +1,5 @@
-// The system: each method is one call of it, but the lock's, which opens the folder first. What a call does is trusted: no
-// clause says it. That it failed, or was interrupted, is counted.
+// The system: each method is one call of it, but the lock's, of two, and the opening's, of three. What a call does is trusted:
+// no clause says it. That it failed, or was interrupted, is counted.
 ghost use Rattle.std.specs.Prelude.{◌≡◌, ◌≤◌, true, is_some, None, IfOk, Ok};
 ghost use Rattle.dl_host.specs.Blind.{blind, held_where};
 ghost use Rattle.dl_host.specs.Hosts.{count_after, is_fault, is_interruption, has_failed, was_interrupted, falls_short, with_faults};
@@ -11,9 +11,9 @@ use std::fs::{File, Files, OpenOptions, TryLockError};
 use std::io;
 use std::io::{ErrorKind, Read, Write};
 use std::os::fd::AsRawFd;
-use std::os::unix::fs::FileExt;
+use std::os::unix::fs::{FileExt, MetadataExt};
 
-/// An area's open file.
+/// An area's open file, which is locked until it is let go.
 #[derive(Drop)]
 pub struct AreaFile {
     area: Area,
@@ -120,6 +120,41 @@ impl<R: Files<File = File> + Print + Drop> Machine<R> {
             Err(why) => Err(self.counts.stop(why)),
         }
     }
+
+    /// What a lock answered; one that somebody else has is a fault.
+    fn counted_lock(&mut self, answer: Result<(), TryLockError>) -> Result<(), Stop>
+        ensures folder { self.new.folder ≡ self.old.folder }
+        ensures faults { self.new.counts.faults ≡ count_after (has_failed result) self.old.counts.faults }
+        ensures interruptions { self.new.counts.interruptions ≡ count_after (was_interrupted result) self.old.counts.interruptions }
+        ensures later { self.old.counts.faults ≤ self.new.counts.faults }
+    {
+        match answer {
+            Ok(()) => Ok(()),
+            Err(TryLockError::Error(why)) => Err(self.counts.stop(why)),
+            Err(TryLockError::WouldBlock) => {
+                self.counts.count_fault();
+                Err(Stop::Failed)
+            }
+        }
+    }
+
+    /// Looks at a file that was opened: it is to be a regular one, with one name. A second name would be another area's, or
+    /// another folder's, and what is written by one would be written over by the other.
+    fn look(&mut self, file: &File) -> Result<(), Stop>
+        ensures folder { self.new.folder ≡ self.old.folder }
+        ensures faults { self.new.counts.faults ≡ count_after (has_failed result) self.old.counts.faults }
+        ensures interruptions { self.new.counts.interruptions ≡ count_after (was_interrupted result) self.old.counts.interruptions }
+        ensures later { self.old.counts.faults ≤ self.new.counts.faults }
+    {
+        let found = file.metadata();
+        let found = self.counted(found)?;
+        if found.is_file() && found.nlink() == 1 {
+            Ok(())
+        } else {
+            self.counts.count_fault();
+            Err(Stop::Failed)
+        }
+    }
 }
 
 impl<R: Files<File = File> + Print + Drop> Host for Machine<R> {
@@ -133,23 +168,17 @@ impl<R: Files<File = File> + Print + Drop> Host for Machine<R> {
 
     ghost area_of = { λ f. f.area };
 
-    /// Opens the folder first: the one method of two calls.
+    /// Opens the folder, and locks it.
     fn lock(&mut self) -> Result<(), Stop> {
         let opened = File::open(&self.rt, ".");
         let folder = self.counted(opened)?;
-        match folder.try_lock() {
-            Ok(()) => {
-                self.folder = Some(folder);
-                Ok(())
-            }
-            Err(TryLockError::Error(why)) => Err(self.counts.stop(why)),
-            Err(TryLockError::WouldBlock) => {
-                self.counts.count_fault();
-                Err(Stop::Failed)
-            }
-        }
+        let locked = folder.try_lock();
+        self.counted_lock(locked)?;
+        self.folder = Some(folder);
+        Ok(())
     }
 
+    /// Opens the file, looks at it, and locks it: a file that two folders lead to by symbolic links has one run at a time.
     fn open(&mut self, area: Area, name: &str) -> Result<AreaFile, Stop> {
         let opened = OpenOptions::new()
             .read(true)
@@ -157,6 +186,9 @@ impl<R: Files<File = File> + Print + Drop> Host for Machine<R> {
             .create(true)
             .open(&self.rt, name);
         let file = self.counted(opened)?;
+        self.look(&file)?;
+        let locked = file.try_lock();
+        self.counted_lock(locked)?;
         Ok(AreaFile { area, file })
     }
 
@@ -233,11 +265,12 @@ impl<R: Input + Drop> Reader for Script<R> {
 }
 
 /// Takes the descriptors of standard streams that are closed, so that no file of the folder gets one of them. A folder
-/// can be neither read nor written, so what is asked of such a stream fails.
+/// can be neither read nor written, so what is asked of such a stream fails. Where the root can't be opened the current
+/// folder is taken.
 pub fn closed_streams<R: Files<File = File>>(rt: &R) -> io::Result<[Option<File>; 3]> {
     let mut taken = [None, None, None];
     for plug in taken.iter_mut() {
-        let folder = File::open(rt, "/")?;
+        let folder = File::open(rt, "/").or_else(|_| File::open(rt, "."))?;
         if folder.as_raw_fd() > 2 {
             break;
         }
