@@ -1,6 +1,6 @@
 #!/usr/bin/env python3
 """Makes the tables among the scripts of bench/scripts/: each case of two or three lists by each other, with what is told of it by
-bench/model.py, which knows nothing of the program. Two of them stand also in the stored run of the program
+bench/model.py, which knows nothing of the program. Four of them stand also in the stored run of the program
 (crates/datalinks_main/stdin, stdout), behind what is written there by hand, so that the gate runs them.
 
     bench/tables.py            # makes them again, and tells which changed
