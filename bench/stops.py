@@ -9,10 +9,13 @@ the steps leave them. Ends with `N passed, M failed`, and with status 1 where on
   the crash left, is itself stopped at each call of each of its records.
 - **Killed**: the program is killed at each of its calls that write or sync, by strace, and each of these calls fails once, which is status
   3. What stands in the areas then is what the first records of the script leave, in the model's order; all that was told stands, and the
-  line behind it is the last with a record. The next run finds what the model says. A call that is interrupted is made again. These are
-  left out where there is no strace.
+  line behind it is the last with a record. The next run finds what the model says. A call that is interrupted is made again.
+- **Opened**: an opening gives the gate of the last record of each area again, and then syncs the area.
+
+The last two are left out where there is no strace.
 """
 import os
+import re
 import shutil
 import signal
 import subprocess
@@ -264,6 +267,48 @@ def interrupted(name, text, calls):
                 check(f"{name}, {call} {number} interrupted", ended, (0, told[-1], whole.areas))
 
 
+# ---- what an opening gives again
+
+OPENED = re.compile(r'openat\(AT_FDCWD, "datalinks\.(\w+)".* = (\d+)$')
+WRITTEN = re.compile(r'pwrite64\((\d+), "(.*)", (\d+), (\d+)\) += (\d+)$')
+SYNCED = re.compile(r"fsync\((\d+)\) += 0$")
+
+
+def calls_of_an_opening(folder):
+    """By area, the writes and syncs of a run without a line: of a write what it writes, how many bytes, where, and how many it wrote."""
+    with room() as beside:
+        log = os.path.join(beside, "log")
+        words = ["strace", "-f", "-qq", "-o", log, "-e", "trace=openat,pwrite64,fsync,fdatasync", scripts.program, "run"]
+        ended = subprocess.run(words, cwd=folder, input=b"", stdout=subprocess.DEVNULL, stderr=subprocess.DEVNULL, timeout=100)
+        areas, calls = {}, {area: [] for area in AREAS}
+        with open(log, encoding="latin-1") as lines:
+            for line in lines:
+                if found := OPENED.search(line):
+                    areas[found[2]] = found[1]
+                elif found := WRITTEN.search(line):
+                    calls[areas[found[1]]].append(("write", found[2], *map(int, found.group(3, 4, 5))))
+                elif (found := SYNCED.search(line)) and found[1] in areas:
+                    calls[areas[found[1]]].append("sync")
+    return ended.returncode, calls
+
+
+def calls_wanted(area):
+    """The first calls: an area with records has the open gate of the last one given again, and its sync; another gets its first gate."""
+    bodies = records_in(area)
+    if not bodies:
+        return ["sync", ("write", "\\0", 1, 0, 1), "sync"]
+    return [("write", "\\1", 1, sum(9 + len(body) for body in bodies[:-1]), 1), "sync"]
+
+
+def opened(name, text):
+    with room() as folder:
+        run(folder, "run", text)
+        wanted_first = {area: calls_wanted(held) for area, held in areas_in(folder).items()}
+        ended, calls = calls_of_an_opening(folder)
+        first = {area: calls[area][: len(wanted_first[area])] for area in AREAS}
+        check(f"{name}, opened: what is given again", (ended, first), (0, wanted_first))
+
+
 def main():
     scripts.program = os.path.abspath(sys.argv[1]) if len(sys.argv) > 1 else str(scripts.BUILT_PROGRAM)
     for name, text in SCRIPTS:
@@ -272,8 +317,9 @@ def main():
             calls = stopped(name, text, "signal=KILL", -signal.SIGKILL)
             stopped(name, text, "error=EIO", 3)
             interrupted(name, text, calls)
+            opened(name, text)
         else:
-            print("killed, failed and interrupted: left out, since there is no strace")
+            print("killed, failed, interrupted and opened: left out, since there is no strace")
     print(f"{counts['passed']} passed, {counts['failed']} failed")
     return 1 if counts["failed"] else 0
 

@@ -1,5 +1,5 @@
-// The system: each method is one call of it, but the lock's, of two, and the opening's, of three. What a call does is trusted:
-// no clause says it. That it failed, or was interrupted, is counted.
+// The system: each method is one call of it, but the lock's, of two, and the opening's, of three. What a call does
+// is trusted: no clause says it. That it failed, or was interrupted, is counted.
 ghost use Rattle.std.specs.Prelude.{◌≡◌, ◌≤◌, true, is_some, None, IfOk, Ok};
 ghost use Rattle.dl_host.specs.Blind.{blind, held_where};
 ghost use Rattle.dl_host.specs.Hosts.{count_after, is_fault, is_interruption, has_failed, was_interrupted, falls_short, with_faults};
@@ -121,6 +121,20 @@ impl<R: Files<File = File> + Print + Drop> Machine<R> {
         }
     }
 
+    /// What a call for one byte answered; one that did nothing is a fault.
+    fn counted_byte(&mut self, answer: io::Result<usize>) -> Result<(), Stop>
+        ensures folder { self.new.folder ≡ self.old.folder }
+        ensures faults { self.new.counts.faults ≡ count_after (has_failed result) self.old.counts.faults }
+        ensures interruptions { self.new.counts.interruptions ≡ count_after (was_interrupted result) self.old.counts.interruptions }
+        ensures later { self.old.counts.faults ≤ self.new.counts.faults }
+    {
+        match self.counted_part(answer, 1) {
+            Ok(0) => Err(Stop::Failed),
+            Ok(_) => Ok(()),
+            Err(why) => Err(why),
+        }
+    }
+
     /// What a lock answered; one that somebody else has is a fault.
     fn counted_lock(&mut self, answer: Result<(), TryLockError>) -> Result<(), Stop>
         ensures folder { self.new.folder ≡ self.old.folder }
@@ -213,6 +227,12 @@ impl<R: Files<File = File> + Print + Drop> Host for Machine<R> {
     fn write_at(&mut self, file: &AreaFile, at: u64, bytes: &[u8]) -> Result<usize, Stop> {
         let written = file.file.write_at(bytes, at);
         self.counted_part(written, bytes.len())
+    }
+
+    /// Writes the byte once more. A system that counted it as written, though its sync failed, has to write it at the next one.
+    fn renew(&mut self, file: &AreaFile, at: u64, byte: u8) -> Result<(), Stop> {
+        let written = file.file.write_at(&[byte], at);
+        self.counted_byte(written)
     }
 
     fn sync(&mut self, file: &AreaFile) -> Result<(), Stop> {

@@ -1,5 +1,5 @@
 // The storage device: five areas of bytes, and a line of told bytes.
-ghost use Rattle.std.specs.Prelude.{◌≡◌, ◌+◌, ◌≤◌, ◌^◌, List, ℕ, length, Some, IfOk, OnOk, OnErr};
+ghost use Rattle.std.specs.Prelude.{◌≡◌, ◌+◌, ◌<◌, ◌≤◌, ◌^◌, List, ℕ, length, slice_get, Some, IfOk, OnOk, OnErr};
 ghost use Rattle.std.specs.Option.{ForSome};
 ghost use Rattle.dl_base.specs.Outside.{Outside, ChangesOnly, Says, Torn, overwritten, portion, extended, FaultCounted, IsLawful};
 
@@ -36,7 +36,17 @@ pub trait Bench {
         ensures cause { OnErr result (FaultCounted (outside self.old) (outside self.new)) }
         ensures clean { OnOk result ((outside self.new).faults ≡ (outside self.old).faults) };
 
-    /// After it, a crash leaves what a read gives.
+    /// Gives the byte that was read at a place to the next sync again: a system whose sync failed may count bytes as written that are
+    /// not, and read them from its memory for a while. What a read gives stays, and what a crash may leave.
+    fn renew(&mut self, area: Area, at: u64, byte: u8) -> Result<(), Failed>
+        requires { ForSome ((outside self.old).reads area) (λ bytes. slice_get bytes at ≡ Some byte) }
+        ensures same { (outside self.new).reads area ≡ (outside self.old).reads area }
+        ensures crash { ChangesOnly area ((outside self.old).image area) (outside self.old) (outside self.new) }
+        ensures cause { OnErr result (FaultCounted (outside self.old) (outside self.new)) }
+        ensures clean { OnOk result ((outside self.new).faults ≡ (outside self.old).faults) };
+
+    /// After it, a crash leaves what a read gives. Behind a sync that failed, also one of an earlier run, this is trusted of the
+    /// bytes that were given again, by `write` or by `renew`.
     fn sync(&mut self, area: Area) -> Result<(), Failed>
         ensures durable { OnOk result ((c : List ℕ) → (outside self.new).image area c → (outside self.old).reads area ≡ Some c) }
         ensures same { (outside self.new).reads area ≡ (outside self.old).reads area }

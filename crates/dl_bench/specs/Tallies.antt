@@ -2,15 +2,16 @@
 use Rattle.std.specs.Prelude.{ℕ, ◌+◌, ◌-◌, ◌^◌, ◌==◌, ◌&&◌, ◌||◌, min, nat_lt, Bool, false, if◌then◌else◌, List, [], ◌∷◌, Option, Some, None, slice_index, slice_set}
 use Rattle.std.specs.List.{list_any}
 use Rattle.dl_bench.specs.declared.call.Call.{Call}
-use Rattle.dl_bench.specs.declared.call.Call.TheVariants.{Length, Read, Write, Sync, Say}
+use Rattle.dl_bench.specs.declared.call.Call.TheVariants.{Length, Read, Write, Renew, Sync, Say}
 
 -- the place of a kind in the counts
 abbrev pub kind_number : Call → ℕ
 kind_number Length = 0
 kind_number Read = 1
 kind_number Write = 2
-kind_number Sync = 3
-kind_number Say = 4
+kind_number Renew = 3
+kind_number Sync = 4
+kind_number Say = 5
 
 -- what is to fail, and what was counted
 pub record Tally : Type 0 where
@@ -28,7 +29,7 @@ pub record Tally : Type 0 where
 
 -- before the first call
 abbrev pub fresh : List (Call × ℕ) → Option ℕ → Tally
-fresh failing fuse = record { failing = failing; fuse = fuse; made = 0 ∷ 0 ∷ 0 ∷ 0 ∷ 0 ∷ []; calls = 0; stopped = 0; starved = 0 }
+fresh failing fuse = record { failing = failing; fuse = fuse; made = 0 ∷ 0 ∷ 0 ∷ 0 ∷ 0 ∷ 0 ∷ []; calls = 0; stopped = 0; starved = 0 }
 
 -- one more; a count stands at its last value
 abbrev pub next : ℕ → ℕ

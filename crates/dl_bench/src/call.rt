@@ -4,6 +4,7 @@ pub enum Call {
     Length,
     Read,
     Write,
+    Renew,
     Sync,
     Say,
 }

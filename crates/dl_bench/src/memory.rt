@@ -1,5 +1,5 @@
 // A bench in memory.
-ghost use Rattle.std.specs.Prelude.{◌≡◌, ◌+◌, ◌≤◌, ◌^◌, List as Items, ℕ, [], length, is_err, IsErr, IsTrue, IfOk, OnOk, OnErr, IfErr, Some};
+ghost use Rattle.std.specs.Prelude.{◌≡◌, ◌+◌, ◌<◌, ◌≤◌, ◌^◌, List as Items, ℕ, [], length, slice_get, is_err, IsErr, IsTrue, IfOk, OnOk, OnErr, IfErr, Some};
 ghost use Rattle.std.specs.Option.{ForSome};
 ghost use Rattle.dl_base.specs.Outside.{ChangesOnly, Says, Torn, overwritten, portion, extended, FaultCounted};
 ghost use Rattle.dl_bench.specs.declared.event.Event.TheVariants.{Put, Write, Sync, Say};
@@ -148,6 +148,22 @@ impl Bench for MemoryBench {
                 Err(Failed)
             }
         }
+    }
+
+    /// It changes nothing but the count.
+    fn renew(&mut self, area: Area, at: u64, byte: u8) -> Result<(), Failed>
+        requires { ForSome ((seen self.old).reads area) (λ bytes. slice_get bytes at ≡ Some byte) }
+        ensures same { (seen self.new).reads area ≡ (seen self.old).reads area }
+        ensures crash { ChangesOnly area ((seen self.old).image area) (seen self.old) (seen self.new) }
+        ensures cause { OnErr result (FaultCounted (seen self.old) (seen self.new)) }
+        ensures clean { OnOk result ((seen self.new).faults ≡ (seen self.old).faults) }
+        ensures due { is_err result ≡ is_due self.old.tally Call.Renew }
+        ensures after { self.new ≡ asked self.old Call.Renew }
+    {
+        if self.plan.fails(Call::Renew) {
+            return Err(Failed);
+        }
+        Ok(())
     }
 
     fn sync(&mut self, area: Area) -> Result<(), Failed>

@@ -11,7 +11,7 @@ use std::marker::Model;
 pub struct Plan {
     failing: List<(Call, u64)>,
     fuse: Option<u64>,
-    made: [u64; 5],
+    made: [u64; 6],
     calls: u64,
     stopped: u64,
     starved: u64,
@@ -35,7 +35,7 @@ impl Plan {
         Plan {
             failing,
             fuse,
-            made: [0; 5],
+            made: [0; 6],
             calls: 0,
             stopped: 0,
             starved: 0,
@@ -90,14 +90,15 @@ impl Plan {
 
 fn kind_number(call: Call) -> usize
     ensures value { result ≡ kind_number call }
-    ensures range { result < 5 }
+    ensures range { result < 6 }
 {
     match call {
         Call::Length => 0,
         Call::Read => 1,
         Call::Write => 2,
-        Call::Sync => 3,
-        Call::Say => 4,
+        Call::Renew => 3,
+        Call::Sync => 4,
+        Call::Say => 5,
     }
 }
 

@@ -1,5 +1,5 @@
 // Calls of the system, each made again where a signal came first.
-ghost use Rattle.std.specs.Prelude.{◌≡◌, ◌⊎◌, ◌+◌, ◌≤◌, ◌<◌, ◌^◌, [], true, false, List, ℕ, length, take, Some, IfOk, OnOk, OnErr};
+ghost use Rattle.std.specs.Prelude.{◌≡◌, ◌⊎◌, ◌+◌, ◌≤◌, ◌<◌, ◌^◌, [], true, false, List, ℕ, length, slice_get, take, Some, IfOk, OnOk, OnErr};
 ghost use Rattle.std.specs.Option.{ForSome};
 ghost use Rattle.dl_base.specs.Outside.{ChangesOnly, Says, Torn, overwritten, portion, extended, FaultCounted};
 ghost use Rattle.dl_host.specs.Hosts.{Stays, NeverLeftAlone};
@@ -139,6 +139,26 @@ pub fn read_some<H: Host>(
         match host.read_at(file, at, into) {
             Ok(0) => return Err(Failed),
             Ok(count) => return Ok(count),
+            Err(Stop::Interrupted) => {}
+            Err(Stop::Failed) => return Err(Failed),
+        }
+    }
+    Err(Failed)
+}
+
+/// Gives the byte that was read at a place of a file to the next sync again.
+pub fn renewed<H: Host>(host: &mut H, file: &H::File, at: u64, byte: u8) -> Result<(), Failed>
+    requires locked { (H.hold host.old).has_lock ≡ true }
+    requires read { ForSome ((H.outside host.old).reads (H.area_of file.now)) (λ bytes. slice_get bytes at ≡ Some byte) }
+    ensures same { (H.outside host.new).reads (H.area_of file.now) ≡ (H.outside host.old).reads (H.area_of file.now) }
+    ensures crash { ChangesOnly (H.area_of file.now) ((H.outside host.old).image (H.area_of file.now)) (H.outside host.old) (H.outside host.new) }
+    ensures stays { Stays (H.hold host.old) (H.hold host.new) }
+    ensures clean { OnOk result ((H.outside host.new).faults ≡ (H.outside host.old).faults) }
+    ensures cause { OnErr result (FaultCounted (H.outside host.old) (H.outside host.new) ⊎ NeverLeftAlone (H.interruptions host.new)) }
+{
+    'again: for _turn in 0..u64::MAX {
+        match host.renew(file, at, byte) {
+            Ok(()) => return Ok(()),
             Err(Stop::Interrupted) => {}
             Err(Stop::Failed) => return Err(Failed),
         }

@@ -1,13 +1,13 @@
 // The bench over the files of a folder.
-ghost use Rattle.std.specs.Prelude.{◌≡◌, ◌⊎◌, ◌+◌, ◌≤◌, ◌<◌, ◌^◌, [], true, false, is_err, IsSome, List as Items, ℕ, length, Some, None, IfOk, OnOk, OnErr};
+ghost use Rattle.std.specs.Prelude.{◌≡◌, ◌⊎◌, ◌+◌, ◌≤◌, ◌<◌, ◌^◌, [], true, false, is_err, IsSome, List as Items, ℕ, length, slice_get, Some, None, IfOk, OnOk, OnErr};
 ghost use Rattle.std.specs.Option.{ForSome};
-ghost use Rattle.dl_base.specs.Outside.{Outside, ChangesOnly, Says, Torn, overwritten, portion, extended, FaultCounted};
+ghost use Rattle.dl_base.specs.Outside.{ChangesOnly, Says, Torn, overwritten, portion, extended, FaultCounted};
 ghost use Rattle.dl_host.specs.Hosts.{with_faults, count_after, NeverLeftAlone};
 ghost use Rattle.dl_host.specs.Held.{AreHeld};
 ghost use Rattle.dl_host.specs.Slots.{slot_of};
 
 use crate::Host;
-use crate::again::{locked, measured, synced};
+use crate::again::{locked, measured, renewed, synced};
 use crate::calls::{opened, read_all, tell_all, write_all};
 use crate::slots::Slots;
 use dl_base::{Area, Bench, Failed};
@@ -149,6 +149,21 @@ impl<H: Host + Drop> FolderBench<H> {
         }
     }
 
+    fn renew_in(&mut self, area: Area, at: u64, byte: u8) -> Result<(), Failed>
+        requires { ForSome ((H.outside self.old.host).reads area) (λ bytes. slice_get bytes at ≡ Some byte) }
+        ensures same { (H.outside self.new.host).reads area ≡ (H.outside self.old.host).reads area }
+        ensures crash { ChangesOnly area ((H.outside self.old.host).image area) (H.outside self.old.host) (H.outside self.new.host) }
+        ensures count { self.new.faults ≡ self.old.faults }
+        ensures clean { OnOk result ((H.outside self.new.host).faults ≡ (H.outside self.old.host).faults) }
+        ensures cause { OnErr result (FaultCounted (H.outside self.old.host) (H.outside self.new.host) ⊎ NeverLeftAlone (H.interruptions self.new.host)) }
+    {
+        self.open(area)?;
+        match self.slots.at(area) {
+            Some(file) => renewed(&mut self.host, file, at, byte),
+            None => Err(Failed),
+        }
+    }
+
     fn sync_of(&mut self, area: Area) -> Result<(), Failed>
         ensures durable { OnOk result ((c : Items ℕ) → (H.outside self.new.host).image area c → (H.outside self.old.host).reads area ≡ Some c) }
         ensures same { (H.outside self.new.host).reads area ≡ (H.outside self.old.host).reads area }
@@ -219,6 +234,19 @@ impl<H: Host + Drop> Bench for FolderBench<H> {
         ensures by_host { OnErr result (FaultCounted (H.outside self.old.host) (H.outside self.new.host) ⊎ NeverLeftAlone (H.interruptions self.new.host)) }
     {
         let answer = self.write_to(area, at, bytes);
+        self.counted(answer)
+    }
+
+    fn renew(&mut self, area: Area, at: u64, byte: u8) -> Result<(), Failed>
+        requires { ForSome ((H.outside self.old.host).reads area) (λ bytes. slice_get bytes at ≡ Some byte) }
+        ensures same { (H.outside self.new.host).reads area ≡ (H.outside self.old.host).reads area }
+        ensures crash { ChangesOnly area ((H.outside self.old.host).image area) (with_faults self.old.faults (H.outside self.old.host)) (with_faults self.new.faults (H.outside self.new.host)) }
+        ensures cause { OnErr result (FaultCounted (with_faults self.old.faults (H.outside self.old.host)) (with_faults self.new.faults (H.outside self.new.host))) }
+        ensures exactly { self.new.faults ≡ count_after (is_err result) self.old.faults }
+        ensures host_clean { OnOk result ((H.outside self.new.host).faults ≡ (H.outside self.old.host).faults) }
+        ensures by_host { OnErr result (FaultCounted (H.outside self.old.host) (H.outside self.new.host) ⊎ NeverLeftAlone (H.interruptions self.new.host)) }
+    {
+        let answer = self.renew_in(area, at, byte);
         self.counted(answer)
     }
 

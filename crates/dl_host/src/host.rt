@@ -1,5 +1,5 @@
 // What the areas and the script ask of the system, one call a method.
-ghost use Rattle.std.specs.Prelude.{◌≡◌, ◌+◌, ◌≤◌, ◌<◌, ◌^◌, true, false, List, ℕ, [], length, take, Option, Some, Err, IfOk, OnOk, OnErr};
+ghost use Rattle.std.specs.Prelude.{◌≡◌, ◌+◌, ◌≤◌, ◌<◌, ◌^◌, true, false, List, ℕ, [], length, slice_get, take, Option, Some, Err, IfOk, OnOk, OnErr};
 ghost use Rattle.dl_base.specs.declared.area.Area.{Area};
 ghost use Rattle.std.specs.Option.{ForSome};
 ghost use Rattle.dl_base.specs.Outside.{Outside, ChangesOnly, Says, Torn, overwritten, portion, extended, IsLawful};
@@ -16,8 +16,8 @@ pub enum Stop {
     Failed,
 }
 
-/// A folder with the areas' files, and standard output: each method is one call of the system. Nothing but the lock is
-/// asked for before the folder is locked.
+/// A folder with the areas' files, and standard output: each method is one call of the system, but the lock's, which may be
+/// two, and the opening's, which may be three. Nothing but the lock is asked for before the folder is locked.
 pub trait Host {
     /// An open file.
     type File: Drop;
@@ -102,7 +102,19 @@ pub trait Host {
         ensures faults { (outside self.new).faults ≡ count_after (falls_short (length bytes.now) result) (outside self.old).faults }
         ensures interruptions { interruptions self.new ≡ count_after (was_interrupted result) (interruptions self.old) };
 
-    /// After it, a crash leaves what a read gives, where the file's name outlives a crash.
+    /// Gives the byte that was read at a place to the next sync again: a system whose sync failed may count bytes as written that are
+    /// not, and read them from its memory for a while. Trusted is also that the same byte, written over itself, tears nothing.
+    fn renew(&mut self, file: &Self::File, at: u64, byte: u8) -> Result<(), Stop>
+        requires locked { (hold self.old).has_lock ≡ true }
+        requires read { ForSome ((outside self.old).reads (area_of file.now)) (λ bytes. slice_get bytes at ≡ Some byte) }
+        ensures same { (outside self.new).reads (area_of file.now) ≡ (outside self.old).reads (area_of file.now) }
+        ensures crash { ChangesOnly (area_of file.now) ((outside self.old).image (area_of file.now)) (outside self.old) (outside self.new) }
+        ensures stays { Stays (hold self.old) (hold self.new) }
+        ensures faults { (outside self.new).faults ≡ count_after (has_failed result) (outside self.old).faults }
+        ensures interruptions { interruptions self.new ≡ count_after (was_interrupted result) (interruptions self.old) };
+
+    /// After it, a crash leaves what a read gives, where the file's name outlives a crash. Behind a sync that failed, also one of
+    /// an earlier run, this is trusted of the bytes that were given again, by `write_at` or by `renew`.
     fn sync(&mut self, file: &Self::File) -> Result<(), Stop>
         requires locked { (hold self.old).has_lock ≡ true }
         ensures durable { OnOk result ((hold self.old).is_named (area_of file.now) ≡ true

@@ -1,3 +1,4 @@
 pub mod Records
+pub mod Faults
 pub mod Steps
 pub mod Writes

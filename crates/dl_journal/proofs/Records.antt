@@ -1,6 +1,7 @@
 -- What the bytes of an area read as.
-use Rattle.std.proofs.Common.{◌≡◌, ◌≢◌, ℕ, zero, suc, ◌+◌, ◌≤◌, ◌<◌, ◌^◌, List, [], ◌∷◌, ◌++◌, length, get_or, take, drop, refl, sym, ◌∙◌, ap, arith, append_assoc, length-append, take-append-drop, true, false, nat_lt, ◌==◌, inl, inr, Result, Ok, Err}
-use Rattle.std.proofs.lemmas.List.{take_at, drop_at, drop-drop, drop_more, append-nil}
+use Rattle.std.proofs.Common.{◌≡◌, ◌≢◌, ℕ, zero, suc, ◌+◌, ◌≤◌, ◌<◌, ◌^◌, List, [], ◌∷◌, ◌++◌, length, get_or, take, drop, refl, sym, ◌∙◌, ap, arith, append_assoc, length-append, length-drop, take-append-drop, true, false, nat_lt, ◌==◌, ◌-◌, slice_get, inl, inr, Some, Result, Ok, Err}
+use Rattle.std.proofs.lemmas.List.{take_at, drop_at, drop_all, drop-drop, drop_more, append-nil}
+use Rattle.std.proofs.lemmas.Option.{slice_get_within, get_or_from_slice_get}
 use Rattle.std.proofs.lemmas.Bool.Decides.{nat_tests}
 use Rattle.std.proofs.lemmas.Bool.{cases_lt}
 use Rattle.std.proofs.lemmas.Nat.{from_be_bytes-to_be_bytes_8}
@@ -23,6 +24,26 @@ length-blocks (x ∷ xs) = omega (arith, length-append (header x ++ x) (blocks x
 pub size-push : (bodies : List (List ℕ)) (body : List ℕ) → size (bodies ++ body ∷ []) ≡ size bodies + 9 + length body
 size-push [] body = omega arith
 size-push (x ∷ xs) body = omega (arith, size-push xs body)
+
+slice_get-end : (front : List (List ℕ)) (last : List ℕ) → slice_get (front ++ last ∷ []) (length front) ≡ Some last
+slice_get-end [] last = refl
+slice_get-end (x ∷ xs) last = slice_get-end xs last
+
+-- the last record is nine bytes and its body
+pub last_is : (bodies : List (List ℕ)) (body : List ℕ) → Some body ≡ slice_get bodies (length bodies - 1) → (front : List (List ℕ)) (last : List ℕ) → bodies ≡ front ++ last ∷ [] → size bodies ≡ size front + 9 + length body
+last_is bodies body is front last at =
+    let end : length (front ++ last ∷ []) - 1 ≡ length front = omega (arith, length-append front (last ∷ [])) in
+    let there : Some body ≡ Some last = is ∙ ap (λ (l : List (List ℕ)). slice_get l (length l - 1)) at ∙ ap (λ (k : ℕ). slice_get (front ++ last ∷ []) k) end ∙ slice_get-end front last in
+    let same : body ≡ last = cc in
+    omega (arith, ap size at, size-push front last, ap length same)
+
+pub last_fits : (bodies : List (List ℕ)) (body : List ℕ) → Some body ≡ slice_get bodies (length bodies - 1) → 9 + length body ≤ size bodies
+last_fits bodies body is =
+    let k = length bodies - 1 in
+    let within : k < length bodies = slice_get_within bodies k body (sym is) in
+    let behind : drop k bodies ≡ body ∷ [] = drop_more bodies k body within ∙ ap (λ (b : List ℕ). b ∷ drop (k + 1) bodies) (get_or_from_slice_get bodies k body body (sym is)) ∙ ap (λ (l : List (List ℕ)). body ∷ l) (drop_all (k + 1) bodies (omega (arith, within))) in
+    let at : bodies ≡ take k bodies ++ body ∷ [] = sym (take-append-drop k bodies) ∙ ap (λ (l : List (List ℕ)). take k bodies ++ l) behind in
+    omega (arith, ap size at, size-push (take k bodies) body)
 
 -- one more record stands behind the others
 pub blocks-push : (bodies : List (List ℕ)) (body rest : List ℕ) → blocks (bodies ++ body ∷ []) ++ rest ≡ blocks bodies ++ 1 ∷ (header body ++ (body ++ rest))
@@ -71,6 +92,24 @@ pub pushed : (bytes rest next body : List ℕ) (bodies : List (List ℕ)) → by
 pushed bytes rest next body bodies is more open_gate behind =
     let whole : rest ≡ 1 ∷ (header body ++ (body ++ next)) = drop_more rest 0 0 more ∙ ap (λ (g : ℕ). g ∷ drop 1 rest) open_gate ∙ ap (λ (l : List ℕ). 1 ∷ l) behind in
     is ∙ ap (λ (l : List ℕ). blocks bodies ++ l) whole ∙ sym (blocks-push bodies body next)
+
+-- a record is so much longer than what follows it
+pub length-record : (rest next body : List ℕ) → 0 < length rest → drop 1 rest ≡ header body ++ (body ++ next) → length rest ≡ 9 + length body + length next
+length-record rest next body more behind =
+    omega (arith, more, ap length behind, length-drop 1 rest, length-append (header body) (body ++ next), length-header body, length-append body next)
+
+-- so its end is within what is left
+pub record_fits : (place left all n more : ℕ) → place + left ≡ all → all ≤ 2 ^ 63 → left ≡ 9 + n + more → place + (9 + n) < 2 ^ 64
+record_fits place left all n more is fits long = omega (arith, is, fits, long)
+
+pub record_less : (left n more : ℕ) → left ≡ 9 + n + more → more < left
+record_less left n more long = omega (arith, long)
+
+-- a gate that is closed ends the list
+pub ended : (bytes rest : List ℕ) (bodies : List (List ℕ)) (place : ℕ) → bytes ≡ blocks bodies ++ rest → 0 < length rest → size bodies ≡ place → place + length rest ≡ length bytes → length bytes ≤ 2 ^ 63 → get_or rest 0 0 ≢ 1
+    → IsAtRest bodies bytes × (size bodies ≡ place)
+ended bytes rest bodies place is more count all fits shut =
+    (joined bodies bytes (omega (arith, more, count, all, fits)) (record { gate = get_or rest 0 0; rest = drop 1 rest; closed = shut; is = is ∙ ap (λ (l : List ℕ). blocks bodies ++ l) (drop_more rest 0 0 more) }), count)
 
 -- a record that is whole, and more behind it
 module _ (body more : List ℕ) (fits : length body < 2 ^ 64) where
@@ -184,3 +223,9 @@ bad_from bytes rest bodies is more open_gate bad = record {
   cut_short = bad;
   is = is ∙ ap (λ (l : List ℕ). blocks bodies ++ l) (drop_more rest 0 0 more ∙ ap (λ (g : ℕ). g ∷ drop 1 rest) open_gate);
 }
+
+-- so the bytes are no list from that gate's place on
+pub bad_at : (bytes rest : List ℕ) (bodies : List (List ℕ)) (place : ℕ) → bytes ≡ blocks bodies ++ rest → 0 < length rest → size bodies ≡ place → place + length rest ≡ length bytes → length bytes ≤ 2 ^ 63 → 2 ≤ length bytes → get_or rest 0 0 ≡ 1 → is_whole (drop 1 rest) ≡ false
+    → records bytes ≡ Err place
+bad_at bytes rest bodies place is more count all fits enough open_gate bad =
+    records-bad bodies bytes (omega (arith, count, all, fits)) enough (bad_from bytes rest bodies is more open_gate bad) ∙ ap (λ (n : ℕ). Err n) count

@@ -1,12 +1,12 @@
 -- What the device calls of an opening and of an append leave, call by call.
-use Rattle.std.proofs.Common.{◌≡◌, ℕ, ◌+◌, ◌≤◌, List, sym, ◌∙◌, subst, arith, inl, inr, Some}
+use Rattle.std.proofs.Common.{◌≡◌, ℕ, ◌+◌, ◌≤◌, ◌<◌, List, [], ◌∷◌, length, sym, ◌∙◌, subst, arith, inl, inr, Option, Some, None, IfSome}
 use Rattle.dl_base.specs.declared.area.Area.{Area}
 use Rattle.dl_base.specs.Outside.{Outside, Torn, TornFrom, ChangesOnly}
 use Rattle.dl_base.proofs.Moments.{touches_more, touches_then}
 use Rattle.dl_journal.specs.Extent.{Extent}
 use Rattle.dl_journal.specs.Open.{Keeps, AddsOne, IsOpening}
-use Rattle.dl_journal.specs.Records.{size, AllAtRest}
-use Rattle.dl_journal.specs.Steps.{AllStaged, StillAtRest, HasGateTorn, IsShort, ShortAfter}
+use Rattle.dl_journal.specs.Records.{size, IsAtRest, AllAtRest}
+use Rattle.dl_journal.specs.Steps.{AllStaged, StillAtRest, HasGateTorn, IsShort}
 use Rattle.dl_journal.proofs.Records.{records-short}
 use Rattle.dl_journal.proofs.Writes.{torn_behind, torn_gate}
 
@@ -54,10 +54,51 @@ module _ (area : Area) (place : ℕ) (journal : Extent) (body : List ℕ) (o : O
       adds : (c : List ℕ) → HasGateTorn (m.image area) place c → AddsOne journal body o c
       adds c torn bodies keeps = let fits : size bodies ≡ place = omega (arith, long, keeps.length) in torn bodies body fits (staged bodies fits (kept at bodies keeps))
 
+-- an area that is the empty list in each image
+abbrev pub AreShort : (List ℕ → Type 0) → Type 0
+AreShort image = (c : List ℕ) → image c → IsShort c
+
+-- short, and there was an image before
+abbrev pub ShortAfter : (List ℕ → Type 0) → List ℕ → Type 0
+ShortAfter image c = (d : List ℕ) × image d × IsShort c
+
+-- the write of the first gate
+pub on_first_gate : (area : Area) (o m : Outside) → AreShort (o.image area) → ChangesOnly area (Torn 0 1 (o.image area)) o m → ChangesOnly area (ShortAfter (o.image area)) o m
+on_first_gate area o m short t = touches_more area _ (ShortAfter (o.image area)) o m (λ c torn. (torn.0, torn.1, omega (arith, short torn.0 torn.1, torn.2.no_longer))) t
+
+-- nothing written yet
+pub opening_read : (area : Area) (o m : Outside) → ChangesOnly area (o.image area) o m → ChangesOnly area (IsOpening area o) o m
+opening_read area o m read = touches_more area _ (IsOpening area o) o m (λ c old. inl old) read
+
 -- a first gate in an area that was read as short
 pub opening_short : (area : Area) (o m n : Outside) → ((c : List ℕ) → m.image area c → (o.reads area ≡ Some c) × IsShort c)
     → ChangesOnly area (o.image area) o m → ChangesOnly area (ShortAfter (m.image area)) m n → ChangesOnly area (IsOpening area o) o n
-opening_short area o m n was read t = touches_then area (IsOpening area o) o m n (touches_more area _ (IsOpening area o) o m (λ c old. inl old) read) (touches_more area _ (IsOpening area o) m n closing t)
+opening_short area o m n was read t = touches_then area (IsOpening area o) o m n (opening_read area o m read) (touches_more area _ (IsOpening area o) m n closing t)
   where
     closing : (c : List ℕ) → ShortAfter (m.image area) c → IsOpening area o c
     closing c short = let is = was short.0 short.1 in inr (short.0, is.0, records-short c short.2 ∙ sym (records-short short.0 is.1))
+
+-- an opening goes on behind a read
+pub opening_on : (area : Area) (o m n : Outside) → m.reads area ≡ o.reads area → ChangesOnly area (o.image area) o m → ChangesOnly area (IsOpening area m) m n → ChangesOnly area (IsOpening area o) o n
+opening_on area o m n same read t = touches_then area (IsOpening area o) o m n (opening_read area o m read) (touches_more area _ (IsOpening area o) m n wider t)
+  where
+    wider : (c : List ℕ) → IsOpening area m c → IsOpening area o c
+    wider c (inl left) = inl (read.here c left)
+    wider c (inr told) = inr (told.0, sym same ∙ told.1, told.2)
+
+-- a place before the closing gate is within what was read
+pub gate_within : (last : Option ℕ) (place : ℕ) (bytes : List ℕ) → IfSome last (λ gate. gate < place) → place < length bytes → IfSome last (λ gate. gate < length bytes)
+gate_within None place bytes before more = tt
+gate_within (Some gate) place bytes before more = omega (arith, before, more)
+
+-- the list ends before the area does
+pub ends_within : (bodies : List (List ℕ)) (c : List ℕ) (place : ℕ) → size bodies ≡ place → IsAtRest bodies c → place + 1 ≤ length c
+ends_within bodies c place fits at_rest = omega (arith, fits, at_rest.more)
+
+-- a journal with no record
+pub keeps_none : (journal : Extent) (bodies : List (List ℕ)) (o : Outside) → journal.length ≡ 1 → bodies ≡ [] → AllAtRest [] (o.image journal.area) → Keeps journal bodies o
+keeps_none journal bodies o long none closed = subst (λ (l : List (List ℕ)). Keeps journal l o) (sym none) (record { length = long; fits = omega arith; images = closed })
+
+pub none_has : {A P : Type 0} (l : List A) → l ≡ [] → 0 < length l → P
+none_has [] none some = absurd (omega arith)
+none_has (x ∷ l) none some = absurd (cc none)

@@ -1,10 +1,11 @@
 -- What writes leave of an area, as laws on lists of bytes.
-use Rattle.std.proofs.Common.{◌≡◌, inl, inr, ℕ, ◌+◌, ◌≤◌, ◌<◌, ◌^◌, List, [], ◌∷◌, ◌++◌, length, get_or, take, drop, refl, sym, ◌∙◌, ap, arith, append_assoc, length-append, take-append-drop, Option, Some, None, length-drop, Result, Ok, Err, OnOk}
+use Rattle.std.proofs.Common.{◌≡◌, inl, inr, ℕ, ◌+◌, ◌≤◌, ◌<◌, ◌^◌, List, [], ◌∷◌, ◌++◌, length, get_or, take, drop, refl, sym, ◌∙◌, ap, subst, arith, append_assoc, length-append, take-append-drop, Option, Some, None, length-drop, Result, Ok, Err, OnOk}
 use Rattle.std.proofs.lemmas.List.{take_at, drop_at, drop_all, drop_more, take-take, drop-drop, length-take-le}
 use Rattle.std.proofs.lemmas.Bool.{cases_eq}
 use Rattle.dl_base.specs.Outside.{TornFrom, replaced, overwritten}
-use Rattle.dl_journal.specs.Records.{blocks, size, IsAtRest, HasOldOrNew}
-use Rattle.dl_journal.specs.Steps.{IsStaged}
+use Rattle.dl_journal.specs.Records.{blocks, size, IsAtRest, AllAtRest, HasOldOrNew}
+use Rattle.dl_journal.specs.Open.{Reaches}
+use Rattle.dl_journal.specs.Steps.{IsStaged, AllStaged}
 use Rattle.dl_journal.proofs.Records.{header, length-header, length-blocks, size-push, blocks-push, split, joined}
 
 -- bytes in the place of others, right behind a front
@@ -31,6 +32,26 @@ no_shorter at bytes s t le is = omega (arith, ap length is, length-replaced at b
 pub was_there : (at : ℕ) (bytes : List ℕ) (o : Option (List ℕ)) (c : List ℕ) → overwritten at bytes o ≡ Some c → (s : List ℕ) × (o ≡ Some s) × (replaced at bytes s ≡ c)
 was_there at bytes None c is = absurd (cc is)
 was_there at bytes (Some s) c is = (s, refl, cc is)
+
+-- what a write leaves reaches the write's end
+pub reaches_written : (at : ℕ) (bytes : List ℕ) (before after : Option (List ℕ)) → Reaches at before → after ≡ overwritten at bytes before → Reaches (at + length bytes) after
+reaches_written at bytes before after reached written s is =
+    let was = was_there at bytes before s (sym written ∙ is) in
+    long_after at bytes was.0 s (reached was.0 was.1) was.2
+
+-- the three writes of a record: its length, its body, and the closed gate behind it
+module _ (place : ℕ) (body head : List ℕ) (o0 o1 : Option (List ℕ)) (is : head ≡ header body) (w1 : o1 ≡ overwritten (place + 1) head o0) where
+  length_written : o1 ≡ overwritten (place + 1) (header body) o0
+  length_written = w1 ∙ ap (λ (bytes : List ℕ). overwritten (place + 1) bytes o0) is
+
+  pub reaches_body : Reaches (place + 1) o0 → Reaches (place + 9) o1
+  reaches_body reached s at = omega (arith, length-header body, reaches_written (place + 1) (header body) o0 o1 reached length_written s at)
+
+  pub reaches_gate : (o2 : Option (List ℕ)) → o2 ≡ overwritten (place + 9) body o1 → Reaches (place + 1) o0 → Reaches (place + 9 + length body) o2
+  reaches_gate o2 w2 reached = reaches_written (place + 9) body o1 o2 (reaches_body reached) w2
+
+  pub reaches_end : (o2 o3 : Option (List ℕ)) → o2 ≡ overwritten (place + 9) body o1 → o3 ≡ overwritten (place + 9 + length body) (0 ∷ []) o2 → Reaches (place + 1) o0 → Reaches (place + 10 + length body) o3
+  reaches_end o2 o3 w2 w3 reached s at = omega (arith, reaches_written (place + 9 + length body) (0 ∷ []) o2 o3 (reaches_gate o2 w2 reached) w3 s at)
 
 -- the first gate, written over fewer than two bytes and synced, is all that a crash leaves
 pub first_gate : {X E : Type 0} (r : Result X E) (before middle : Option (List ℕ)) (image : List ℕ → Type 0) → ((s : List ℕ) → before ≡ Some s → length s < 2) → middle ≡ overwritten 0 (0 ∷ []) before
@@ -118,3 +139,17 @@ module _ (bodies : List (List ℕ)) where
       sym w ∙ ap (λ (l : List ℕ). replaced (size bodies) (1 ∷ []) l) staged.is
       ∙ replaced_behind (blocks bodies) (staged.gate ∷ behind) (1 ∷ []) (size bodies) (length-blocks bodies)
       ∙ append_assoc (blocks bodies) (1 ∷ []) behind)
+
+-- the three writes, synced, leave the record staged in whatever a crash leaves
+pub all_staged : (place : ℕ) (body head : List ℕ) (o0 o1 o2 o3 : Option (List ℕ)) (image after : List ℕ → Type 0) → place + 10 + length body ≤ 2 ^ 63 → head ≡ header body
+    → o1 ≡ overwritten (place + 1) head o0 → o2 ≡ overwritten (place + 9) body o1 → o3 ≡ overwritten (place + 9 + length body) (0 ∷ []) o2
+    → ((s : List ℕ) → o0 ≡ Some s → image s) → ((c : List ℕ) → after c → o3 ≡ Some c)
+    → (bodies : List (List ℕ)) → size bodies ≡ place → AllAtRest bodies image → AllStaged bodies body after
+all_staged place body head o0 o1 o2 o3 image after room is w1 w2 w3 reads durable bodies fits all d left =
+    let was2 = was_there (place + 9 + length body) (0 ∷ []) o2 d (sym w3 ∙ durable d left) in
+    let was1 = was_there (place + 9) body o1 was2.0 (sym w2 ∙ was2.1) in
+    let was0 = was_there (place + 1) (header body) o0 was1.0 (sym (length_written place body head o0 o1 is w1) ∙ was1.1) in
+    staged bodies body was0.0 was1.0 was2.0 d (omega (arith, fits, room)) (all was0.0 (reads was0.0 was0.1))
+    (subst (λ (k : ℕ). replaced (k + 1) (header body) was0.0 ≡ was1.0) (sym fits) was0.2)
+    (subst (λ (k : ℕ). replaced (k + 9) body was1.0 ≡ was2.0) (sym fits) was1.2)
+    (subst (λ (k : ℕ). replaced (k + 9 + length body) (0 ∷ []) was2.0 ≡ d) (sym fits) was2.2)

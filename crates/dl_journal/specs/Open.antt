@@ -43,7 +43,7 @@ GetsFirstGate before image = (told : List ℕ) → before ≡ Some told → leng
 abbrev pub ReadsSameList : Option (List ℕ) → Option (List ℕ) → Type 0
 ReadsSameList before after = (told c : List ℕ) → before ≡ Some told → after ≡ Some c → records c ≡ records told
 
--- nothing was written: the area reads as before, and a crash leaves nothing that it might not have left before
+-- nothing was changed: the area reads as before, and a crash leaves nothing that it might not have left before
 pub record IsUnwritten (area : Area) (old new : Outside) : Type 0 where
   pub reads : new.reads area ≡ old.reads area
   pub images : ChangesOnly area (old.image area) old new

@@ -32,13 +32,6 @@ pub record IsBad (bodies : List (List ℕ)) (bytes : List ℕ) : Type 0 where
 abbrev pub IsShort : List ℕ → Type 0
 IsShort c = length c < 2
 
-abbrev pub AreShort : (List ℕ → Type 0) → Type 0
-AreShort image = (c : List ℕ) → image c → IsShort c
-
--- short, and there was an image before
-abbrev pub ShortAfter : (List ℕ → Type 0) → List ℕ → Type 0
-ShortAfter image c = (d : List ℕ) × image d × IsShort c
-
 -- these bytes are what an area reads, where that is told
 abbrev pub HasRead : List ℕ → Option (List ℕ) → Type 0
 HasRead bytes reads = (told : List ℕ) → reads ≡ Some told → bytes ≡ told

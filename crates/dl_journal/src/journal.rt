@@ -3,8 +3,8 @@ ghost use Rattle.dl_base.specs.Outside.{ChangesOnly, FaultCounted};
 ghost use Rattle.dl_journal.specs.Open.{IsOpen, Keeps, grown, IsList, IsNoList, IsOpening, IsUnwritten, GetsFirstGate, ReadsSameList, AddsOne};
 
 use crate::append::{open_gate, stage};
-use crate::begin::{read_all, write_first_gate};
-use crate::parse::parse;
+use crate::begin::{read_all, renew_last, write_first_gate};
+use crate::parse::{last_gate, parse};
 use dl_base::{AppendFault, Area, BeginFault, Bench, Full, List, Text};
 use std::alloc::Global;
 use std::marker::Model;
@@ -31,6 +31,8 @@ impl Model for Journal {
 
 impl Journal {
     /// Syncs an area, and gives the bodies of its records in order. An area of fewer than two bytes gets a closed gate, the byte 0.
+    /// The gate of the last record is renewed before the sync: of the bytes that the list is read from it alone may be in doubt from
+    /// an earlier run. What stands behind the closing gate is none of them, and an append writes it anew.
     /// Appends fill it up to the limit, in bytes; what stands there already may be longer.
     /// `NotAJournal` has the place, from 0, of the gate of the first record that passes the area's end.
     pub fn begin<B: Bench>(
@@ -48,7 +50,7 @@ impl Journal {
         ensures open { IfOk result (λ r. IsOpen r.0 (B.outside bench.new)) }
         ensures journal { IfOk result (λ r. (r.0.area ≡ area) × (r.0.limit ≡ limit)) }
 
-        // Where there are records, nothing was written.
+        // Where there are records, nothing was changed.
         ensures unwritten { IfOk result (λ r. 0 < length r.1 → IsUnwritten area (B.outside bench.old) (B.outside bench.new)) }
 
         // An area of fewer than two bytes has the closed gate 0 where it is opened, whatever a crash leaves.
@@ -80,6 +82,7 @@ impl Journal {
             ));
         }
         let (bodies, place) = parse(alloc, &bytes)?;
+        renew_last(bench, area, &bytes, last_gate(&bodies, place))?;
         Ok((Journal { area, place, limit }, bodies))
     }
 

@@ -1,5 +1,5 @@
 // The bytes of an area, read as records.
-ghost use Rattle.std.specs.Prelude.{◌≡◌, ◌≢◌, ◌+◌, ◌<◌, ◌≤◌, ◌^◌, ◌++◌, ℕ, length, false, Err, IfOk, IfSome, IfNone};
+ghost use Rattle.std.specs.Prelude.{◌≡◌, ◌≢◌, ◌+◌, ◌<◌, ◌≤◌, ◌^◌, ◌++◌, [], ◌∷◌, List as Items, ℕ, length, false, Some, Err, IfOk, IfSome, IfNone};
 ghost use Rattle.std.specs.Int.{to_be_bytes, from_be_bytes, w64};
 ghost use Rattle.dl_journal.specs.Records.{IsAtRest, is_whole, size, records};
 
@@ -58,4 +58,15 @@ pub fn parse(alloc: Global, bytes: &[u8]) -> Result<(List<Text>, u64), BeginFaul
         rest = next;
     }
     Ok((bodies, place))
+}
+
+/// The place of the gate of the last of these records, which end at this place.
+pub fn last_gate(bodies: &List<Text>, place: u64) -> Option<u64>
+    requires { size bodies.now ≡ place }
+    ensures is { (front : Items (Items ℕ)) (last : Items ℕ) → bodies.now ≡ front ++ last ∷ [] → result ≡ Some (size front) }
+    ensures before { IfSome result (λ gate. gate < place) }
+    ensures none { IfNone result (bodies.now ≡ []) }
+{
+    let last = bodies.as_slice().last()?;
+    Some(place - 9 - last.len() as u64)
 }

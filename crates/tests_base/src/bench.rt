@@ -38,12 +38,19 @@ fn write(bench: &mut MemoryBench, at: u64, bytes: &[u8]) -> Option<bool> {
     Some(bench.write(Area::Rows, at, bytes).is_ok())
 }
 
+/// Whether the sixth byte is renewed.
+fn renew(bench: &mut MemoryBench) -> Option<bool> {
+    let byte = *bench.area(Area::Rows).get(5)?;
+    Some(bench.renew(Area::Rows, 5, byte).is_ok())
+}
+
 /// Whether one call of this kind is done. A write puts `XY` at 2.
 fn call(bench: &mut MemoryBench, kind: Call) -> Option<bool> {
     match kind {
         Call::Length => Some(bench.length(Area::Rows).is_ok()),
         Call::Read => read(bench),
         Call::Write => write(bench, 2, b"XY"),
+        Call::Renew => renew(bench),
         Call::Sync => Some(bench.sync(Area::Rows).is_ok()),
         Call::Say => Some(bench.say(b"hi").is_ok()),
     }
@@ -91,8 +98,15 @@ fn calls_do_what_they_say(rt: HostRuntime) {
     assert!(rt; told(alloc) == Some(0));
 }
 
-fn kinds() -> [Call; 5] {
-    [Call::Length, Call::Read, Call::Write, Call::Sync, Call::Say]
+fn kinds() -> [Call; 6] {
+    [
+        Call::Length,
+        Call::Read,
+        Call::Write,
+        Call::Renew,
+        Call::Sync,
+        Call::Say,
+    ]
 }
 
 /// Whether the first of two calls is done, whether Rows are as they were then, how much is told, and whether the second is done.

@@ -51,6 +51,24 @@ fn reads_by_the_format(rt: HostRuntime) {
     assert!(rt; refused_at(rt.alloc(), &TWO_RECORDS[..21]) == Some(10));
 }
 
+/// Whether an opening that has so many calls ends well.
+fn begins_within(alloc: Global, content: &[u8], calls: u64) -> Option<bool> {
+    let mut bench = with_area(alloc, Area::Rows, content, Some(calls))?;
+    let begun = Journal::begin(alloc, &mut bench, Area::Rows, 64);
+    Some(begun.is_ok())
+}
+
+// The length, the read, the last gate that is given again, and the sync. Without records no gate is.
+#[test]
+fn gives_one_gate_again(rt: HostRuntime) {
+    for calls in 0..4 {
+        assert!(rt; begins_within(rt.alloc(), &TWO_RECORDS, calls) == Some(false));
+    }
+    assert!(rt; begins_within(rt.alloc(), &TWO_RECORDS, 4) == Some(true));
+    assert!(rt; begins_within(rt.alloc(), &TWO_RECORDS[21..], 2) == Some(false));
+    assert!(rt; begins_within(rt.alloc(), &TWO_RECORDS[21..], 3) == Some(true));
+}
+
 /// The journal of an area, with room for 21 bytes.
 fn opened(alloc: Global, bench: &mut MemoryBench) -> Option<Journal>
     ensures { IfSome result (λ journal. IsOpen journal (seen bench.new)) }

@@ -75,6 +75,7 @@ pub struct FakeHost {
     plan: Plan,
     is_locked: bool,
     is_named: bool,
+    given: Option<(u64, u8)>,
     faults: u64,
     interruptions: u64,
 }
@@ -89,6 +90,7 @@ impl FakeHost {
             plan,
             is_locked: false,
             is_named: false,
+            given: None,
             faults: 0,
             interruptions: 0,
         })
@@ -111,10 +113,15 @@ impl FakeHost {
         self.bench.told()
     }
 
-    /// The letters of the calls, in their order: l(ock), d (the folder is synced), n (length), r(ead), w(rite), s(ync),
-    /// t(ell); and the letter of its area for the opening of a file.
+    /// The letters of the calls, in their order: l(ock), d (the folder is synced), n (length), r(ead), w(rite), g (a byte is
+    /// given again), s(ync), t(ell); and the letter of its area for the opening of a file.
     pub fn calls(&self) -> &[u8] {
         &self.plan.calls
+    }
+
+    /// The byte that was given again last, behind its place.
+    pub fn given(&self) -> Option<(u64, u8)> {
+        self.given
     }
 
     /// Begins a call. One that fails is counted, and one that is interrupted.
@@ -218,6 +225,12 @@ impl Host for FakeHost {
             }
             Err(Failed) => Err(self.failed()),
         }
+    }
+
+    fn renew(&mut self, _file: &Area, at: u64, byte: u8) -> Result<(), Stop> {
+        self.begin(b'g')?;
+        self.given = Some((at, byte));
+        Ok(())
     }
 
     fn sync(&mut self, file: &Area) -> Result<(), Stop> {

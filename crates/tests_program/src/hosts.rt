@@ -2,7 +2,7 @@
 ghost use Rattle.std.specs.Prelude.{◌≡◌, false, IfOk};
 
 use crate::fake::{FakeHost, FakeReader, Plan};
-use crate::runs::{first_record, openings, words_of};
+use crate::runs::{first_record, openings, renamed_files, words_of};
 use datalinks::{Status, single};
 use dl_base::{Area, Memory, Text};
 use dl_host::{FolderBench, InputSource};
@@ -24,6 +24,8 @@ struct End {
     /// The whole text was told, and each file has its records.
     is_whole: bool,
     calls: usize,
+    /// Syncs of files: two of each new area, and two of each record.
+    syncs: usize,
     /// The folder was locked before all else, and once; each file was opened once, in the order of the areas; and the folder was
     /// synced behind each of these openings, before all else, and not again.
     begins_once: bool,
@@ -66,6 +68,7 @@ fn end_of(status: Status, host: &FakeHost) -> End {
         told: host.told().len(),
         is_whole: host.told() == text() && has_records(host),
         calls: host.calls().len(),
+        syncs: count(host.calls(), b's'),
         begins_once: begins_once(host.calls()),
     }
 }
@@ -96,6 +99,7 @@ fn a_whole_run(rt: HostRuntime) {
     let end = run(rt.alloc(), Plan::new(rt.alloc()), false);
     assert!(rt; end.is_some_and(|end| end.code == 0 && end.is_whole));
     assert!(rt; end.is_some_and(|end| end.begins_once));
+    assert!(rt; end.is_some_and(|end| end.syncs == 16));
 }
 
 /// Whether a run is whole whose calls do so many bytes at most, each behind an interrupted one: that of the lock, of the
@@ -140,6 +144,59 @@ fn left(alloc: Global, plan: Plan) -> Result<FakeHost, Memory>
     }
 }
 
+fn put_more(host: &mut FakeHost) -> Result<(), Memory>
+    ensures { host.new.is_locked ≡ host.old.is_locked }
+{
+    let opened = openings()[1];
+    host.put(Area::Rows, opened)?;
+    host.put(Area::Links, opened)?;
+    host.put(Area::Files, renamed_files())?;
+    host.put(Area::Archive, b"\0")?;
+    host.put(Area::Backups, b"\0")
+}
+
+/// The status of a run without a line, whether it begins with these calls, and the byte that was given again last, behind its place.
+fn opened_on(
+    alloc: Global,
+    words: &[Text],
+    host: FakeHost,
+    begin: &[u8],
+) -> (u8, bool, Option<(u64, u8)>)
+    requires { host.is_locked ≡ false }
+{
+    let mut source = InputSource::new(FakeReader::new(b"", false));
+    let (status, after) = single(alloc, words, &mut source, FolderBench::new(host));
+    let calls = after.host().calls();
+    let is_begin = calls.starts_with(begin) && count(calls, b'g') == count(begin, b'g');
+    let end = (status.code(), is_begin, after.host().given());
+    drop(after);
+    end
+}
+
+/// The same where Rows and Links have two records each, and Files has three. `None` is want of memory.
+fn opened(alloc: Global, begin: &[u8]) -> Option<(u8, bool, Option<(u64, u8)>)> {
+    let words = words_of(alloc, b"run")?;
+    let end = match FakeHost::new(alloc, Plan::new(alloc)) {
+        Ok(mut host) => match put_more(&mut host) {
+            Ok(()) => Some(opened_on(alloc, words.as_slice(), host, begin)),
+            Err(_) => {
+                drop(host);
+                None
+            }
+        },
+        Err(_) => None,
+    };
+    drop(words);
+    end
+}
+
+// The third record of Files begins at byte 97, where its gate is open.
+#[test]
+fn each_last_gate_is_given_again_before_the_sync(rt: HostRuntime) {
+    let begin = b"lRdnrgsLdnrgsFdnrgsAdnrswsBdnrsws";
+    assert_eq!(rt; opened(rt.alloc(), begin), Some((0, true, Some((97, 1)))));
+}
+
 fn told_file() -> &'static [u8] {
     b"1: bytes 3\n1| one\n"
 }
@@ -178,6 +235,7 @@ fn short_interrupted_and_failing_reads(rt: HostRuntime) {
         assert_eq!(rt; read_again(rt.alloc(), most, 0), Some((0, 18, true)));
     }
     assert_eq!(rt; read_again(rt.alloc(), 1_000, b'r'), Some((3, 0, false)));
+    assert_eq!(rt; read_again(rt.alloc(), 1_000, b'g'), Some((3, 0, false)));
 }
 
 /// The status, and how much was told, where calls of this letter fail.

@@ -20,7 +20,7 @@ pub fn openings() -> [&'static [u8]; 2] {
 }
 
 /// The same after `@ann rename /a /b`, a removal and a put, and `@ann chmod /b off`, a new owner and no saved one.
-fn renamed_files() -> &'static [u8] {
+pub fn renamed_files() -> &'static [u8] {
     b"\x01\0\0\0\0\0\0\0\x24\x01\0\0\0\0\0\0\0\0\0\0\0\x01\x01\0\0\0\x02/a\0\0\0\x03ann\x01\0\0\0\0\x03one\
       \x01\0\0\0\0\0\0\0\x2b\x01\0\0\0\0\0\0\0\0\0\0\0\x02\0\0\0\0\x02/a\x01\0\0\0\x02/b\0\0\0\x03ann\x01\0\0\0\0\x03one\
       \x01\0\0\0\0\0\0\0\x1d\x01\0\0\0\0\0\0\0\0\0\0\0\x01\x02\0\0\0\x02/b\0\0\0\x03ann\0\0\0"
