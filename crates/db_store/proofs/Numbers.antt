@@ -2,11 +2,12 @@
 use Rattle.std.proofs.Common.{◌≡◌, ℕ, ◌+◌, ◌-◌, ◌<◌, ◌≤◌, cond, Option, Some, None, sym, ap, ◌∙◌, arith}
 use Rattle.std.proofs.lemmas.Bool.{lt-ltb, le-ltb}
 use Rattle.std.specs.Option.{option_map}
+use Rattle.dl_base.specs.Limits.{most_numbers}
 use Rattle.dl_base.specs.declared.fault.AppendFault.{AppendFault}
 use Rattle.dl_base.specs.declared.fault.AppendFault.TheVariants as appends
 use Rattle.dl_base.specs.declared.fault.Full.{Full}
 use Rattle.dl_base.specs.declared.fault.Full.TheVariants as fulls
-use Rattle.meaning_areas.specs.Full.{draw_full, most_numbers, opening_full}
+use Rattle.meaning_areas.specs.Full.{draw_full, opening_full}
 
 abbrev faults : Option Full → Option AppendFault
 faults o = option_map (λ f. appends.Full f) o

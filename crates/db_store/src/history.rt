@@ -1,5 +1,5 @@
 // What the records of the area Rows stand for so far, at an opening.
-ghost use Rattle.std.specs.Prelude.{◌≡◌, ◌+◌, ◌/◌, ◌^◌, ◌≤◌, ◌==◌, ◌&&◌, ◌++◌, ◌∷◌, [], ℕ, List, Option, IfOk, is_none, length, not};
+ghost use Rattle.std.specs.Prelude.{◌≡◌, ◌+◌, ◌/◌, ◌^◌, ◌≤◌, ◌==◌, ◌&&◌, [], List, IfOk, is_none, length, not};
 ghost use Rattle.std.specs.Bool.{then_some};
 ghost use Rattle.db_store.specs.Log.{AllCommitted, AllNew, commits_from, has_branch, open_branches};
 ghost use Rattle.meaning_areas.specs.Commits.{commit_of, has_number, commits_on, ends_on, no_commits, opens_on, tables_after};

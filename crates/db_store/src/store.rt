@@ -12,7 +12,8 @@ ghost use Rattle.dl_codec.specs.declared.rows.RowsRecord.TheVariants as records;
 ghost use Rattle.dl_journal.specs.Open.{IsOpen, IsUnwritten};
 ghost use Rattle.meaning_areas.specs.Areas.{rows_of};
 ghost use Rattle.meaning_areas.specs.Commits.{commit_of, has_number, tables_after, with_ended};
-ghost use Rattle.meaning_areas.specs.Full.{draw_full, most_numbers};
+ghost use Rattle.dl_base.specs.Limits.{most_numbers};
+ghost use Rattle.meaning_areas.specs.Full.{draw_full};
 ghost use Rattle.meaning_areas.specs.Stands.{past};
 ghost use Rattle.db_changes.specs.Made.{record_of};
 ghost use Rattle.db_changes.specs.Touched.{AreCommitted};
@@ -28,14 +29,12 @@ use crate::log::Log;
 use crate::write::write;
 use db_changes::Made;
 use dl_areas::an_append_writes_one_record;
+use dl_base::limits::MOST_NUMBERS;
 use dl_base::{AppendFault, Area, BeginFault, Bench, Full, Memory};
 use dl_journal::Journal;
 use sql_table::{RoomyTables, Tables};
 use std::alloc::Global;
 use std::marker::Model;
-
-// The greatest number of an opening, and of a transaction inside one.
-const MOST_NUMBERS: u32 = 4_294_967_294;
 
 /// The commits of the database, in memory and in the area Rows. Contracts see what the records of the area stand for, how many
 /// transaction numbers of the last opening are drawn, for how many more commits there is room, how many bytes the area's records and

@@ -1,8 +1,8 @@
 -- Numbers in digits, and the bounds that the code has beside the definitions: what the definitions make of them.
 use Rattle.std.proofs.Common.{◌≡◌, ◌-◌, ◌^◌, [], codes, Some, None, refl}
 use Rattle.dl_base.specs.Digits.{is_number, number_in}
-use Rattle.dl_base.specs.Limits.{most_columns, most_varchar_bytes, most_tables, most_rows, row_numbers, most_sources, most_combined_rows, most_links, most_files, most_actors, most_actor_name_bytes, most_line_bytes, most_script_bytes}
-use Rattle.dl_base.specs.declared.limits.TheConstants.{MOST_COLUMNS, MOST_VARCHAR_BYTES, MOST_TABLES, MOST_ROWS, ROW_NUMBERS, MOST_SOURCES, MOST_COMBINED_ROWS, MOST_LINKS, MOST_FILES, MOST_ACTORS, MOST_ACTOR_NAME_BYTES, MOST_LINE_BYTES, MOST_SCRIPT_BYTES}
+use Rattle.dl_base.specs.Limits.{most_name_bytes, most_path_bytes, most_columns, most_varchar_bytes, most_tables, most_rows, row_numbers, most_sources, most_combined_rows, most_operators, most_open_parentheses, most_numbers, most_links, most_files, most_actors, most_actor_name_bytes, most_line_bytes, most_script_bytes}
+use Rattle.dl_base.specs.declared.limits.TheConstants.{MOST_NAME_BYTES, MOST_PATH_BYTES, MOST_COLUMNS, MOST_VARCHAR_BYTES, MOST_TABLES, MOST_ROWS, ROW_NUMBERS, MOST_SOURCES, MOST_COMBINED_ROWS, MOST_OPERATORS, MOST_OPEN_PARENTHESES, MOST_NUMBERS, MOST_LINKS, MOST_FILES, MOST_ACTORS, MOST_ACTOR_NAME_BYTES, MOST_LINE_BYTES, MOST_SCRIPT_BYTES}
 
 -- numbers in digits
 
@@ -52,6 +52,12 @@ past_64_bits = refl
 
 -- each bound of the code is the one of the definitions
 
+name_bytes : MOST_NAME_BYTES ≡ most_name_bytes
+name_bytes = refl
+
+path_bytes : MOST_PATH_BYTES ≡ most_path_bytes
+path_bytes = refl
+
 columns : MOST_COLUMNS ≡ most_columns
 columns = refl
 
@@ -73,6 +79,15 @@ sources = refl
 combined_rows : MOST_COMBINED_ROWS ≡ most_combined_rows
 combined_rows = refl
 
+operators : MOST_OPERATORS ≡ most_operators
+operators = refl
+
+open_parentheses : MOST_OPEN_PARENTHESES ≡ most_open_parentheses
+open_parentheses = refl
+
+numbers : MOST_NUMBERS ≡ most_numbers
+numbers = refl
+
 links : MOST_LINKS ≡ most_links
 links = refl
 
@@ -90,3 +105,6 @@ line_bytes = refl
 
 script_bytes : MOST_SCRIPT_BYTES ≡ most_script_bytes
 script_bytes = refl
+
+a_script : most_script_bytes ≡ 2 ^ 26
+a_script = refl

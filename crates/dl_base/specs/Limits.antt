@@ -1,5 +1,13 @@
 -- The bounds of the system. What would pass one is refused, and changes nothing.
-use Rattle.std.specs.Prelude.{ℕ, suc, ◌^◌}
+use Rattle.std.specs.Prelude.{ℕ, suc, ◌-◌, ◌^◌}
+
+-- bytes of a name
+abbrev pub most_name_bytes : ℕ
+most_name_bytes = 64
+
+-- bytes of a path
+abbrev pub most_path_bytes : ℕ
+most_path_bytes = 1024
 
 -- columns of a table
 abbrev pub most_columns : ℕ
@@ -28,6 +36,18 @@ most_sources = 8
 -- combined rows of one FROM
 abbrev pub most_combined_rows : ℕ
 most_combined_rows = 10000000
+
+-- operators and calls of one expression
+abbrev pub most_operators : ℕ
+most_operators = 255
+
+-- parentheses of one expression that are open at once
+abbrev pub most_open_parentheses : ℕ
+most_open_parentheses = 256
+
+-- the greatest number of an opening, and of a transaction inside one
+abbrev pub most_numbers : ℕ
+most_numbers = 2 ^ 32 - 2
 
 -- links that one transaction draws
 abbrev pub most_links : ℕ

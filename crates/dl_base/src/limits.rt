@@ -1,5 +1,11 @@
 //! The bounds of the system. What would pass one is refused, and changes nothing.
 
+/// Bytes of a name.
+pub const MOST_NAME_BYTES: usize = 64;
+
+/// Bytes of a path.
+pub const MOST_PATH_BYTES: usize = 1024;
+
 /// Columns of a table.
 pub const MOST_COLUMNS: usize = 64;
 
@@ -20,6 +26,15 @@ pub const MOST_SOURCES: usize = 8;
 
 /// Combined rows of one FROM.
 pub const MOST_COMBINED_ROWS: u64 = 10_000_000;
+
+/// Operators and calls of one expression.
+pub const MOST_OPERATORS: u32 = 255;
+
+/// Parentheses of one expression that are open at once.
+pub const MOST_OPEN_PARENTHESES: u32 = 256;
+
+/// The greatest number of an opening, and of a transaction inside one.
+pub const MOST_NUMBERS: u32 = 4_294_967_294;
 
 /// Links that one transaction draws.
 pub const MOST_LINKS: u32 = 1_000_000;

@@ -3,6 +3,7 @@ ghost use Rattle.std.specs.List.{list_all};
 ghost use Rattle.std.specs.Option.{option_copied};
 ghost use Rattle.dl_base.specs.Name.{IsName, name_test, is_name_byte, is_letter};
 
+use crate::limits::MOST_NAME_BYTES;
 use crate::{Copied, Memory, Same};
 use std::alloc::Global;
 use std::marker::Model;
@@ -13,7 +14,7 @@ use std::marker::Model;
 pub fn is_name(bytes: &[u8]) -> bool
     ensures { result ≡ name_test bytes.now }
 {
-    if bytes.len() > 64 || !is_letter(bytes.first()) {
+    if bytes.len() > MOST_NAME_BYTES || !is_letter(bytes.first()) {
         return false;
     }
     are_name_bytes(bytes)

@@ -3,6 +3,7 @@ ghost use Rattle.std.specs.List.{list_all};
 ghost use Rattle.std.specs.Option.{option_copied};
 ghost use Rattle.dl_base.specs.Path.{IsPath, path_test, is_path_byte, is_slash};
 
+use crate::limits::MOST_PATH_BYTES;
 use crate::{Copied, Memory, Same};
 use std::alloc::Global;
 use std::marker::Model;
@@ -13,7 +14,7 @@ use std::marker::Model;
 pub fn is_path(bytes: &[u8]) -> bool
     ensures { result ≡ path_test bytes.now }
 {
-    if bytes.len() > 1024 || !is_slash(bytes.first()) || is_slash(bytes.last()) {
+    if bytes.len() > MOST_PATH_BYTES || !is_slash(bytes.first()) || is_slash(bytes.last()) {
         return false;
     }
     are_path_bytes(bytes)

@@ -7,6 +7,7 @@ use Rattle.std.proofs.lemmas.Fmt.{decimal_is_IsNumeral}
 use Rattle.std.proofs.lemmas.List.{get_or_append_left, length-append}
 use Rattle.std.proofs.lemmas.Option.{slice_get-get_or}
 use Rattle.hex.specs.Hex.{encode_lower}
+use Rattle.dl_base.specs.Limits.{most_path_bytes}
 use Rattle.dl_base.specs.Path.{IsPath, path_test, is_slash, is_path_byte}
 use Rattle.dl_base.specs.declared.file.Token.{Token}
 use Rattle.dl_token.specs.Tokens.{IsToken, ReadsAs, token_text, last_name, folder, digit_count, is_lower_hex, begins_with_token, has_token_form, token_of, without_token, with_token, read_token}
@@ -39,9 +40,9 @@ begun_path (b ∷ bs) is = omega arith
 named_path : (path : List ℕ) → path_test path ≡ true → 0 < length (last_name path)
 unfolding path_test
 named_path path is =
-    let third = and_parts (nat_le (length path) 1024 && is_slash (slice_get path 0) && not (is_slash (slice_get path (length path - 1)))) (list_all is_path_byte path) is in
-    let second = and_parts (nat_le (length path) 1024 && is_slash (slice_get path 0)) (not (is_slash (slice_get path (length path - 1)))) third.0 in
-    let first = and_parts (nat_le (length path) 1024) (is_slash (slice_get path 0)) second.0 in
+    let third = and_parts (nat_le (length path) most_path_bytes && is_slash (slice_get path 0) && not (is_slash (slice_get path (length path - 1)))) (list_all is_path_byte path) is in
+    let second = and_parts (nat_le (length path) most_path_bytes && is_slash (slice_get path 0)) (not (is_slash (slice_get path (length path - 1)))) third.0 in
+    let first = and_parts (nat_le (length path) most_path_bytes) (is_slash (slice_get path 0)) second.0 in
     let some = begun_path path first.1 in
     elim (cases_eq (length (last_name path)) 0) [
       | inl none ↦

@@ -1,14 +1,15 @@
 -- One more record of a fold.
 use Rattle.std.proofs.Common.{◌≡◌, ℕ, ◌+◌, ◌<◌, ◌≤◌, List, [], ◌∷◌, ◌++◌, length, get_or, take, drop, sym, ap, ◌∙◌, arith, Option, Some, None, Ok, Err}
 use Rattle.std.proofs.lemmas.List.{append_assoc, take_more, drop_more, take-append-drop}
-use Rattle.std.specs.Option.{ok_or}
+use Rattle.std.specs.Option.{ok_or, option_and_then}
 use Rattle.dl_codec.specs.Layout.{whole}
 use Rattle.dl_codec.specs.Links.{links_record}
+use Rattle.dl_codec.specs.declared.links.LinksRecord.{LinksRecord}
 use Rattle.dl_journal.proofs.Records.{size-push}
 use Rattle.dl_journal.specs.Records.{size}
 use Rattle.meaning_areas.proofs.FoldLaws.{folded-err}
 use Rattle.meaning_areas.specs.Areas.{links_body, branches_of}
-use Rattle.meaning_areas.specs.Branches.{Branches}
+use Rattle.meaning_areas.specs.Branches.{Branches, links_step}
 use Rattle.meaning_areas.specs.Folds.{folded}
 use Rattle.fm_branch.specs.Linked.{prepared_by, prepared_in}
 
@@ -50,3 +51,15 @@ prepared_next items i body lt is was now so_far more =
     ∙ ap (λ (b : List ℕ). was ++ prepared_in (b ∷ drop (i + 1) items)) is
     ∙ ap (λ (l : List (List ℕ)). was ++ prepared_in l) (sym (drop_more items i body lt))
     ∙ so_far
+
+-- what a body gives that reads as a record
+
+module _ (body : List ℕ) (read : Option LinksRecord) (x y : LinksRecord) (exact : read ≡ whole links_record body) (some : read ≡ Some x) (is : x ≡ y) where
+  reads : whole links_record body ≡ Some y
+  reads = sym exact ∙ some ∙ ap (λ (z : LinksRecord). Some z) is
+
+  pub read_links : (l : Branches) (o : Option Branches) → links_step l y ≡ o → links_body l body ≡ o
+  read_links l o step = ap (λ (r : Option LinksRecord). option_and_then (links_step l) r) reads ∙ step
+
+  pub read_prepared : (was now : List ℕ) → now ≡ was ++ prepared_by (Some y) → now ≡ was ++ prepared_by (whole links_record body)
+  read_prepared was now more = more ∙ ap (λ (r : Option LinksRecord). was ++ prepared_by r) (sym reads)

@@ -7,5 +7,6 @@ pub mod Lists
 pub mod Maps
 pub mod Numbers
 pub mod Results
+pub mod Seen
 pub mod Settled
 pub mod TableLaws

@@ -28,14 +28,12 @@ use crate::history::History;
 use crate::vote::parts_of;
 use crate::write::{aborted_body, committed_body, done_body, opening_body, write};
 use dl_areas::{an_append_writes_one_record, steps_end_so};
+use dl_base::limits::MOST_NUMBERS;
 use dl_base::{AppendFault, Area, BeginFault, Bench, Full, LinkRow, List, Memory, Path, StepFault};
 use dl_codec::Taken;
 use dl_journal::Journal;
 use std::alloc::Global;
 use std::marker::Model;
-
-// The greatest number of an opening.
-const MOST_NUMBERS: u32 = 4_294_967_294;
 
 /// The branches of transactions and the links that are held, in memory and in the area Links. Contracts see what the records of the
 /// area stand for, the transaction of each Prepared in the order of the records, how many bytes the area's records and closing gate

@@ -17,7 +17,7 @@ use Rattle.dl_codec.specs.declared.files.FilesRecord.{FilesRecord}
 use Rattle.dl_codec.specs.declared.files.FilesRecord.TheVariants as records
 use Rattle.meaning_areas.specs.FilesArea.{with_record, files_step, files_of, user_record}
 use Rattle.meaning_areas.proofs.FoldLaws.{folded-accepted}
-use Rattle.meaning_files.specs.Commands.{needs_file, refusal_of, refusal, with_file, put, command_changes, changed}
+use Rattle.meaning_files.specs.Commands.{needs_file, refusal_of, with_file, put, command_changes, changed}
 use Rattle.meaning_files.specs.Files.{Files, with_owner, if_there, with_changes}
 
 -- the fold of a user's record

@@ -1,7 +1,8 @@
 -- Which bodies a step or an opening writes, and when an area is full.
-use Rattle.std.specs.Prelude.{ℕ, ◌+◌, ◌-◌, ◌^◌, nat_lt, if◌then◌else◌, List, [], ◌∷◌, length, Option, Some, None}
+use Rattle.std.specs.Prelude.{ℕ, ◌+◌, ◌-◌, nat_lt, if◌then◌else◌, List, [], ◌∷◌, length, Option, Some, None}
 use Rattle.std.specs.Option.{option_or}
 use Rattle.dl_base.specs.Areas.{is_area}
+use Rattle.dl_base.specs.Limits.{most_numbers}
 use Rattle.dl_base.specs.declared.area.Area.{Area}
 use Rattle.dl_base.specs.declared.area.Area.TheVariants as areas
 use Rattle.dl_base.specs.declared.fault.Full.{Full}
@@ -34,11 +35,7 @@ full lengths limit (b ∷ bs) =
     let n = lengths b.0 + 9 + length b.1 in
     if nat_lt limit n then Some (fulls.Area b.0 n) else full (longer lengths b.0 n) limit bs
 
--- the greatest number of an opening, and of a transaction inside one
-abbrev pub most_numbers : ℕ
-most_numbers = 2 ^ 32 - 2
-
--- a next number, n, that would pass it
+-- a next number, n, of an opening, and of a transaction inside one, that would pass the greatest
 abbrev pub opening_full : ℕ → Option Full
 opening_full n = if nat_lt most_numbers n then Some (fulls.Openings (n - 1)) else None
 

@@ -203,6 +203,10 @@ column_past_the_last : (columns : List ColumnDef) → length columns ≡ 65 → 
 unfolding create
 column_past_the_last columns h = rw h refl
 
+last_column : (columns : List ColumnDef) (made : List Column) → length columns ≡ 64 → columns_made [] false columns ≡ Ok made → create [] (116 ∷ []) columns 1 ≡ Ok (record { tables = (116 ∷ [], new_table made) ∷ []; next = 1; count = 0 })
+unfolding create
+last_column columns made h is = rw (h, is) refl
+
 -- columns that are named, and cells by them
 
 not_named_is_null : arranged 0 (keyed ∷ texts ∷ linked ∷ []) (2 ∷ 0 ∷ []) (row (link 97 None ∷ int 7 ∷ [])) ≡ int 7 ∷ values.Null ∷ link 97 None ∷ []

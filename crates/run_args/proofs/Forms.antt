@@ -8,7 +8,7 @@ use Rattle.std.proofs.lemmas.Slice.Eq.{bytes_eq-Decides}
 use Rattle.hex.specs.Hex.{decode_pairs}
 use Rattle.clap.specs.Lexer.{long_of, short_of}
 use Rattle.dl_base.specs.Digits.{is_number, number_in}
-use Rattle.run_args.specs.Words.{NamedText, is_server_byte, is_server, key_in, is_option, is_form, behind_hyphens, name_of, text_of, with, commands, by_text, by_name, said_in}
+use Rattle.run_args.specs.Words.{NamedText, is_server_byte, is_server, key_in, is_option, is_form, behind_hyphens, name_of, text_of, with, commands, by_text, by_name, said_in, most_area_bytes, most_life, most_moment}
 use Rattle.run_args.proofs.Loose.{dashes, loose, ready, waits, ended, and_said, by_value, ready_by, waits_by}
 use Rattle.run_args.proofs.Rules.{the_command, either_way}
 use Rattle.run_args.proofs.Turns.{IsPlain}
@@ -69,11 +69,11 @@ form_undashed name w known is = elim (either_way (bytes_eq (codes "server") name
   | inr e1 ↦ elim (either_way (bytes_eq (codes "key") name)) [
     | inl e ↦ key_undashed w (rw (e1, e) at is)
     | inr e2 ↦ elim (either_way (bytes_eq (codes "now") name)) [
-      | inl e ↦ number_undashed w (is_number_of 0 9007199254740992 w (rw (e1, e2, e) at is))
+      | inl e ↦ number_undashed w (is_number_of 0 most_moment w (rw (e1, e2, e) at is))
       | inr e3 ↦ elim (either_way (bytes_eq (codes "life") name)) [
-        | inl e ↦ number_undashed w (is_number_of 1 1000000000 w (rw (e1, e2, e3, e) at is))
+        | inl e ↦ number_undashed w (is_number_of 1 most_life w (rw (e1, e2, e3, e) at is))
         | inr e4 ↦ elim (either_way (bytes_eq (codes "area") name)) [
-          | inl e ↦ number_undashed w (is_number_of 1 1099511627776 w (rw (e1, e2, e3, e4, e) at is))
+          | inl e ↦ number_undashed w (is_number_of 1 most_area_bytes w (rw (e1, e2, e3, e4, e) at is))
           | inr e5 ↦ absurd (false≢true (rw (e1, e2, e3, e4, e5) at known))
         ]
       ]

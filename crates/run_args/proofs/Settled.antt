@@ -8,7 +8,7 @@ use Rattle.dl_base.specs.declared.step.Settings.{Settings}
 use Rattle.clap.specs.Walk.{first_of}
 use Rattle.dl_base.specs.Digits.{number_in}
 use Rattle.dl_base.specs.Steps.{◌>>=◌}
-use Rattle.run_args.specs.Words.{NamedText, is_server, server_in, key_in, is_form, has, are_distinct, text_in, settings_of, no_key}
+use Rattle.run_args.specs.Words.{NamedText, is_server, server_in, key_in, is_form, has, are_distinct, text_in, settings_of, no_key, most_area_bytes, most_life, most_moment}
 use Rattle.run_args.proofs.Forms.{is_formed}
 use Rattle.run_args.proofs.Rules.{row, the_command, text_itself, either_way}
 
@@ -54,9 +54,9 @@ record Holds (text : List ℕ → Option (List ℕ)) : Type 0 where
   pub command : bytes_eq (unwrap_or (text the_command) []) (codes "run") ≡ true
   pub server : is_server (unwrap_or (text (codes "server")) (codes "fs1")) ≡ true
   pub key : is_some (key_in (unwrap_or (text (codes "key")) no_key)) ≡ true
-  pub now : is_some (number_in 20 0 9007199254740992 (unwrap_or (text (codes "now")) (codes "0"))) ≡ true
-  pub life : is_some (number_in 20 1 1000000000 (unwrap_or (text (codes "life")) (codes "60"))) ≡ true
-  pub area : is_some (number_in 20 1 1099511627776 (unwrap_or (text (codes "area")) (codes "1099511627776"))) ≡ true
+  pub now : is_some (number_in 20 0 most_moment (unwrap_or (text (codes "now")) (codes "0"))) ≡ true
+  pub life : is_some (number_in 20 1 most_life (unwrap_or (text (codes "life")) (codes "60"))) ≡ true
+  pub area : is_some (number_in 20 1 most_area_bytes (unwrap_or (text (codes "area")) (codes "1099511627776"))) ≡ true
 
 holds : (text : List ℕ → Option (List ℕ)) (s : Settings) → settings_of text ≡ Some s → Holds text
 holds text s is = elim (either_way (bytes_eq (unwrap_or (text the_command) []) (codes "run"))) [
@@ -64,9 +64,9 @@ holds text s is = elim (either_way (bytes_eq (unwrap_or (text the_command) []) (
   | inl e ↦
       let (server, server_is, one) = bound (server_in (unwrap_or (text (codes "server")) (codes "fs1"))) _ s (rw e at is) in
       let (key, key_is, two) = bound (key_in (unwrap_or (text (codes "key")) no_key)) _ s one in
-      let (now, now_is, three) = bound (number_in 20 0 9007199254740992 (unwrap_or (text (codes "now")) (codes "0"))) _ s two in
-      let (life, life_is, four) = bound (number_in 20 1 1000000000 (unwrap_or (text (codes "life")) (codes "60"))) _ s three in
-      let (area, area_is, five) = bound (number_in 20 1 1099511627776 (unwrap_or (text (codes "area")) (codes "1099511627776"))) _ s four in
+      let (now, now_is, three) = bound (number_in 20 0 most_moment (unwrap_or (text (codes "now")) (codes "0"))) _ s two in
+      let (life, life_is, four) = bound (number_in 20 1 most_life (unwrap_or (text (codes "life")) (codes "60"))) _ s three in
+      let (area, area_is, five) = bound (number_in 20 1 most_area_bytes (unwrap_or (text (codes "area")) (codes "1099511627776"))) _ s four in
       record {
         command = e;
         server = some_server _ server server_is;

@@ -1,5 +1,5 @@
 // The words split by clap, as one simple command of text values.
-ghost use Rattle.std.specs.Prelude.{◌≡◌, IfOk, MatchResult, map, codes, option_map, unwrap_or, true, false};
+ghost use Rattle.std.specs.Prelude.{◌≡◌, IfOk, MatchResult, map, option_map, unwrap_or, true, false};
 ghost use Rattle.clap.specs.Words.{app_of, with_rule, new_rule, rows_of, found_of, fault_of, matches_of, FailsBy, first_of};
 ghost use Rattle.run_args.specs.Command.{option, bare, with_options, command, is_taken, found, given};
 ghost use Rattle.run_args.specs.declared.fault.WordsFault.TheVariants as faults;

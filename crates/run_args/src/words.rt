@@ -4,7 +4,7 @@ ghost use Rattle.std.specs.List.{list_all};
 ghost use Rattle.std.specs.Str.{is_utf8};
 ghost use Rattle.clap.specs.Words.{rows_of, found_of};
 ghost use Rattle.run_args.specs.Command.{settings_in};
-ghost use Rattle.run_args.specs.Words.{AnswersAs, names_run, settings};
+ghost use Rattle.run_args.specs.Words.{AnswersAs, most_area_bytes, names_run, settings};
 ghost use Rattle.run_args.specs.declared.fault.WordsFault.TheVariants as faults;
 
 use crate::fault::WordsFault;
@@ -27,7 +27,7 @@ const NO_KEY: &str = "0000000000000000000000000000000000000000000000000000000000
 #[tactic(auto, using(crate::proofs::Agree::agree, crate::proofs::Run::without_run))]
 pub fn read_words(alloc: Global, words: &[Text]) -> Result<Settings, WordsFault>
     ensures exact { AnswersAs result (settings words.now) }
-    ensures bounded { IfOk result (λ s. (1 ≤ s.limit) × (s.limit ≤ 1099511627776)) }
+    ensures bounded { IfOk result (λ s. (1 ≤ s.limit) × (s.limit ≤ most_area_bytes)) }
     ensures texts { list_all is_utf8 words.now ≡ false → result ≡ Err faults.Usage }
     ensures named { names_run words.now ≡ false → result ≡ Err faults.Usage }
 {
@@ -93,7 +93,7 @@ fn texts<'a>(alloc: Global, words: &'a [Text]) -> Result<Option<Vec<&'a str>>, M
 #[tactic(auto, unfolding(crate::specs::Command::settings_in))]
 fn settings_in(alloc: Global, matches: &ArgMatches<'_>) -> Result<Settings, WordsFault>
     ensures exact { AnswersAs result (settings_in (rows_of (found_of matches.now))) }
-    ensures bounded { IfOk result (λ s. (1 ≤ s.limit) × (s.limit ≤ 1099511627776)) }
+    ensures bounded { IfOk result (λ s. (1 ≤ s.limit) × (s.limit ≤ most_area_bytes)) }
 {
     if given(matches, "command", "") != "run" {
         return Err(WordsFault::Usage);

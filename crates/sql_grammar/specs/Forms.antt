@@ -12,7 +12,7 @@ use Rattle.sql_grammar.specs.declared.symbol.Symbol.TheVariants as symbol
 use Rattle.sql_grammar.specs.declared.terminal.Terminal.{Terminal}
 use Rattle.sql_grammar.specs.declared.terminal.Terminal.TheVariants.{Fixed, Word, Number, Literal}
 use Rattle.sql_grammar.specs.Levels.{symbol_of, level_of, left_of, right_of}
-use Rattle.sql_grammar.specs.Bounds.{most_operators, most_open}
+use Rattle.dl_base.specs.Limits.{most_operators, most_open_parentheses}
 use Rattle.sql_grammar.specs.Words as words
 
 -- an expression as it is written, with its parentheses
@@ -164,4 +164,4 @@ pub record Derives (ws : List Terminal) (t : Expr) : Type 0 where
   pub text_is : text form ≡ ws
   pub tree_is : tree form ≡ t
   pub few : operators form ≤ most_operators
-  pub flat : depth form ≤ most_open
+  pub flat : depth form ≤ most_open_parentheses

@@ -2,7 +2,6 @@ pub mod Words
 pub mod Reserved
 pub mod Proper
 pub mod Levels
-pub mod Bounds
 pub mod Forms
 pub mod Lang
 pub mod Statements

@@ -16,7 +16,7 @@ use Rattle.sql_grammar.specs.declared.frame.Frame.TheVariants.{Opened, Negation,
 use Rattle.sql_grammar.specs.Levels.{level_of, left_of, right_of}
 use Rattle.sql_grammar.specs.Cues.{Cue, an_operator, a_not, an_is, a_null, an_open, a_close, a_comma, a_dot, a_number, a_literal, a_word, cue}
 use Rattle.sql_grammar.specs.Forms.{reference}
-use Rattle.sql_grammar.specs.Bounds.{most_operators, most_open}
+use Rattle.dl_base.specs.Limits.{most_operators, most_open_parentheses}
 use Rattle.sql_grammar.specs.Words as words
 use Rattle.sql_grammar.specs.Words.{same_bytes}
 
@@ -143,13 +143,13 @@ move_after s t l n p _ = leave (reduced 0 s t) p
 -- a parenthesis behind a word
 abbrev pub call_open : Option Callee → List Frame → List ℕ → ℕ → ℕ → Move
 call_open None s w n p = leave (reduced 0 s (e.Column (reference None w))) p
-call_open (Some Count) s w n p = if nat_lt n most_operators && nat_lt p most_open then Go (star_due s (suc n) p) else Refuse
-call_open (Some (Opens g)) s w n p = if nat_lt n most_operators && nat_lt p most_open then Go (due (Opened g ∷ s) (suc n) (suc p)) else Refuse
+call_open (Some Count) s w n p = if nat_lt n most_operators && nat_lt p most_open_parentheses then Go (star_due s (suc n) p) else Refuse
+call_open (Some (Opens g)) s w n p = if nat_lt n most_operators && nat_lt p most_open_parentheses then Go (due (Opened g ∷ s) (suc n) (suc p)) else Refuse
 
 abbrev pub move : State → Cue → Move
 move (due s n p) (an_operator Sub) = if nat_lt n most_operators then Go (due (Sign ∷ s) (suc n) p) else Refuse
 move (due s n p) a_not = if nat_le (need s) 2 && nat_lt n most_operators then Go (due (Negation ∷ s) (suc n) p) else Refuse
-move (due s n p) an_open = if nat_lt p most_open then Go (due (Opened Group ∷ s) n (suc p)) else Refuse
+move (due s n p) an_open = if nat_lt p most_open_parentheses then Go (due (Opened Group ∷ s) n (suc p)) else Refuse
 move (due s n p) a_null = Go (after s e.Null 7 n p)
 move (due s n p) (a_number x) = Go (after s (e.Number x) 7 n p)
 move (due s n p) (a_literal x) = Go (after s (e.Literal x) 7 n p)

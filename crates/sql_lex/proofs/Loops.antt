@@ -1,9 +1,11 @@
 -- What the loops keep.
-use Rattle.std.proofs.Common.{◌≡◌, ℕ, zero, suc, ◌+◌, ◌-◌, ◌*◌, ◌≤◌, ◌<◌, ◌^◌, Bool, true, false, leb, ◌==◌, List, [], ◌∷◌, ◌++◌, length, drop, get_or, Option, Some, None, refl, sym, ap, ◌∙◌, arith, append_assoc}
+use Rattle.std.proofs.Common.{◌≡◌, ℕ, zero, suc, ◌+◌, ◌-◌, ◌*◌, ◌≤◌, ◌<◌, ◌^◌, Bool, true, false, leb, ◌==◌, List, [], ◌∷◌, ◌++◌, length, drop, get_or, Option, Some, None, refl, sym, ap, ◌∙◌, arith, append_assoc, append-nil}
+use Rattle.std.specs.Prelude.{IfSome}
+use Rattle.std.specs.Bool.{then_some}
 use Rattle.std.specs.List.{list_all}
 use Rattle.std.specs.Char.{is_ascii_digit}
 use Rattle.std.proofs.lemmas.Bool.{lt-leb, leb-true, eqb-true}
-use Rattle.std.proofs.lemmas.List.{at_drop_more}
+use Rattle.std.proofs.lemmas.List.{at_drop_more, at_drop_all}
 use Rattle.sql_lex.specs.Spelling.{is_literal_byte}
 use Rattle.sql_lex.proofs.Bools.{and_left, and_right}
 use Rattle.sql_lex.specs.Scan.{decimal_from, decimal_below, literal_text, with_byte, one_longer}
@@ -33,6 +35,16 @@ abbrev pub text_front : List ℕ → ℕ → Option (List ℕ × ℕ) → Option
 text_front front n None = None
 text_front front n (Some t) = Some (front ++ t.0, n + t.1)
 
+pub no_text_yet : (o : Option (List ℕ × ℕ)) → text_front [] 0 o ≡ o
+no_text_yet None = refl
+no_text_yet (Some t) = ap (λ n. Some (t.0, n)) (omega arith)
+
+nothing_more : (front : List ℕ) (n : ℕ) → text_front front n (Some ([], 0)) ≡ Some (front, n)
+nothing_more front n = (λ i. Some (append-nil front i, len i))
+  where
+    len : n + 0 ≡ n
+    len = omega arith
+
 front_more : (front : List ℕ) (n b : ℕ) (o : Option (List ℕ × ℕ)) → text_front (front ++ b ∷ []) (n + 1) o ≡ text_front front n (with_byte b o)
 front_more front n b None = refl
 front_more front n b (Some t) = (λ i. Some (append_assoc front (b ∷ []) t.0 i, lens i))
@@ -56,6 +68,28 @@ module _ (front bs : List ℕ) (i b : ℕ) (total : Option (List ℕ × ℕ)) (l
 
   pub one_byte : (b == 39) ≡ false → is_literal_byte b ≡ true → text_front front i (literal_text false (drop i bs)) ≡ total → text_front (front ++ b ∷ []) (i + 1) (literal_text false (drop (i + 1) bs)) ≡ total
   one_byte e fine h = front_more front i b (literal_text false (drop (i + 1) bs)) ∙ ap (text_front front i) (sym (here false ∙ rw (e, fine) refl)) ∙ h
+
+  pub closed : (b == 39) ≡ false → text_front front i (literal_text true (drop i bs)) ≡ total → Some (front, i) ≡ total
+  closed e h =
+      let ends : literal_text true (b ∷ drop (i + 1) bs) ≡ Some ([], 0) = rw e refl in
+      sym (nothing_more front i) ∙ ap (text_front front i) (sym (here true ∙ ends)) ∙ h
+
+  pub stopped : (b == 39) ≡ false → is_literal_byte b ≡ false → text_front front i (literal_text false (drop i bs)) ≡ total → None ≡ total
+  stopped e bad h =
+      let none : literal_text false (b ∷ drop (i + 1) bs) ≡ None = rw (e, bad) refl in
+      ap (text_front front i) (sym (here false ∙ none)) ∙ h
+
+-- behind all bytes the text is closed by the quote before them, or open
+pub at_end : (front bs : List ℕ) (i : ℕ) (q : Bool) (total : Option (List ℕ × ℕ)) → i ≤ length bs → length bs ≤ i → text_front front i (literal_text q (drop i bs)) ≡ total → then_some q (front, length bs) ≡ total
+at_end front bs i q total le ge h = said q ∙ sym (at_drop_all (λ (x : List ℕ). text_front front i (literal_text q x)) bs i ge) ∙ h
+  where
+    said : (q : Bool) → then_some q (front, length bs) ≡ text_front front i (literal_text q [])
+    said true = ap (λ n. Some (front, n)) (omega (arith, le, ge)) ∙ sym (nothing_more front i)
+    said false = refl
+
+pub some_within : (q : Bool) (text : List ℕ) (n : ℕ) → IfSome {T = List ℕ × ℕ} (then_some q (text, n)) (λ t. t.1 ≤ n)
+some_within true text n = omega arith
+some_within false text n = tt
 
 pub no_quote : (b : ℕ) → (b ≡ 39 → ⊥) → (b == 39) ≡ false
 no_quote b h = by_test (b == 39) refl

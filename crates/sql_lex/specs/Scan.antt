@@ -2,19 +2,20 @@
 use Rattle.std.specs.Prelude.{ℕ, zero, suc, ◌+◌, ◌-◌, ◌*◌, Bool, true, false, ◌==◌, nat_le, nat_lt, if◌then◌else◌, List, [], ◌∷◌, take, map, Option, Some, None, Result, Ok, Err, pos}
 use Rattle.std.specs.List.{prefix_len}
 use Rattle.std.specs.Char.{is_ascii_digit, is_ascii_alphabetic, to_ascii_lowercase}
+use Rattle.dl_base.specs.Limits.{most_name_bytes}
 use Rattle.dl_base.specs.Name.{is_name_byte}
 use Rattle.sql_lex.specs.declared.lexeme.LexKind.{LexKind}
 use Rattle.sql_lex.specs.declared.lexeme.LexKind.TheVariants.{Word, Number, Literal, Sign}
 use Rattle.sql_lex.specs.declared.lexeme.Lexeme.{Lexeme}
 use Rattle.dl_base.specs.Blank.{is_blank}
-use Rattle.sql_lex.specs.Spelling.{is_literal_byte, begins, most_word_bytes, number_bound}
+use Rattle.sql_lex.specs.Spelling.{is_literal_byte, begins, number_bound}
 
 -- a lexeme and its length
 abbrev pub Front : Type 0
 Front = Option (LexKind × ℕ)
 
 abbrev pub word_front : List ℕ → Front
-word_front bs = let n = prefix_len is_name_byte bs in if nat_le n most_word_bytes then Some (Word (map to_ascii_lowercase (take n bs)), n) else None
+word_front bs = let n = prefix_len is_name_byte bs in if nat_le n most_name_bytes then Some (Word (map to_ascii_lowercase (take n bs)), n) else None
 
 -- the number that decimal digits say, behind digits of value v
 abbrev pub decimal_from : ℕ → List ℕ → ℕ

@@ -29,10 +29,6 @@ abbrev pub begins : (ℕ → Bool) → List ℕ → Bool
 begins p [] = false
 begins p (b ∷ bs) = p b
 
--- a word has as many bytes as a name at most
-abbrev pub most_word_bytes : ℕ
-most_word_bytes = 64
-
 -- a number is below it
 abbrev pub number_bound : ℕ
 number_bound = 2 ^ 63

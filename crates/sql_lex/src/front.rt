@@ -7,11 +7,9 @@ ghost use Rattle.sql_lex.specs.Spelling.{is_literal_byte, begins};
 ghost use Rattle.sql_lex.specs.Scan.{decimal_below, word_front, number_front, literal_text, literal_front, sign_front, front};
 
 use crate::lexeme::LexKind;
+use dl_base::limits::MOST_NAME_BYTES;
 use dl_base::{Memory, Name, Text};
 use std::alloc::Global;
-
-/// A word has at most so many bytes.
-const MAX_WORD: usize = 64;
 
 /// The greatest number.
 const MAX_NUMBER: u64 = 9_223_372_036_854_775_807;
@@ -56,7 +54,7 @@ fn word(alloc: Global, bytes: &[u8]) -> Result<Option<(LexKind, usize)>, Memory>
     ensures { IfOk result (λ f. f ≡ word_front bytes.now) }
 {
     let len = word_len(bytes);
-    if len > MAX_WORD {
+    if len > MOST_NAME_BYTES {
         return Ok(None);
     }
     let folded = folded(alloc, &bytes[..len])?;

@@ -6,7 +6,7 @@ ghost use Rattle.std.specs.Prelude.{◌≡◌, ◌∷◌, ◌<◌, ◌&&◌, ℕ
 ghost use Rattle.std.specs.Option.{option_map};
 ghost use Rattle.dl_base.specs.declared.statement.Expr.{Expr};
 ghost use Rattle.dl_base.specs.declared.statement.Expr as expr;
-ghost use Rattle.sql_grammar.specs.Bounds.{most_open, most_operators};
+ghost use Rattle.dl_base.specs.Limits.{most_open_parentheses, most_operators};
 ghost use Rattle.sql_grammar.specs.Cues.{cue, cue_of, an_operator, a_not, an_is, a_close, a_comma};
 ghost use Rattle.sql_grammar.specs.Forms.{reference};
 ghost use Rattle.sql_grammar.specs.Machine.{reduced, move, ended, binds_at, applied, enclosed, need, frame_need, due, after, Go, move_after, leave, closed, passed, call_open, callee_of, callees, look_up};
@@ -20,15 +20,10 @@ ghost use Rattle.sql_precedence.specs.Views.{stack_of, state_of, move_of, asked,
 
 use crate::role::{Role, left, level, right, role_of};
 use crate::word::same_bytes;
+use dl_base::limits::{MOST_OPEN_PARENTHESES, MOST_OPERATORS};
 use dl_base::{Boxed, Expr, Fold, Memory, Name, Op, Part, Ref};
 use sql_grammar::{Callee, Frame, Opening, Symbol, Terminal};
 use std::alloc::Global;
-
-/// Operators and calls of one expression.
-pub const MAX_OPERATORS: u32 = 255;
-
-/// Parentheses that are open at once.
-pub const MAX_OPEN: u32 = 256;
 
 // How tightly an operand without operators binds.
 const TIGHTEST: u8 = 7;
@@ -221,7 +216,7 @@ fn push_operator(mut stack: Stack, frame: Frame) -> Result<Step, Memory>
     ensures { IfOk result (λ s. move_of s
         ≡ (if nat_lt stack.operators most_operators then Go (due (frame ∷ stack_of stack.frames.items) (suc stack.operators) stack.parentheses) else machine.Refuse)) }
 {
-    if stack.operators < MAX_OPERATORS {
+    if stack.operators < MOST_OPERATORS {
         stack.operators += 1;
         push(stack, frame)
     } else {
@@ -233,9 +228,9 @@ fn push_operator(mut stack: Stack, frame: Frame) -> Result<Step, Memory>
 // One more parenthesis that is open.
 fn open(mut stack: Stack, opening: Opening) -> Result<Step, Memory>
     ensures { IfOk result (λ s. move_of s
-        ≡ (if nat_lt stack.parentheses most_open then Go (due (frame.Opened opening ∷ stack_of stack.frames.items) stack.operators (suc stack.parentheses)) else machine.Refuse)) }
+        ≡ (if nat_lt stack.parentheses most_open_parentheses then Go (due (frame.Opened opening ∷ stack_of stack.frames.items) stack.operators (suc stack.parentheses)) else machine.Refuse)) }
 {
-    if stack.parentheses < MAX_OPEN {
+    if stack.parentheses < MOST_OPEN_PARENTHESES {
         stack.parentheses += 1;
         push(stack, Frame::Opened(opening))
     } else {
@@ -337,7 +332,7 @@ fn ask(alloc: Global, mut stack: Stack, last: Expr, bound: u8) -> Result<Step, M
         ≡ move_after (stack_of stack.frames.items) last bound stack.operators stack.parentheses an_is) }
 {
     let value = reduce(alloc, &mut stack.frames, 4, last)?;
-    if bound >= 4 && need(&stack.frames) <= 3 && stack.operators < MAX_OPERATORS {
+    if bound >= 4 && need(&stack.frames) <= 3 && stack.operators < MOST_OPERATORS {
         stack.operators += 1;
         Ok(Step::Go(Reading::IsDue(stack, value)))
     } else {
@@ -520,9 +515,9 @@ fn column(table: Option<Name>, column: Name) -> Expr
 // COUNT and its parenthesis.
 fn open_count(mut stack: Stack) -> Result<Step, Memory>
     ensures { IsOkAnd result (λ s. move_of s
-        ≡ (if nat_lt stack.operators most_operators && nat_lt stack.parentheses most_open then Go (machine.star_due (stack_of stack.frames.items) (suc stack.operators) stack.parentheses) else machine.Refuse)) }
+        ≡ (if nat_lt stack.operators most_operators && nat_lt stack.parentheses most_open_parentheses then Go (machine.star_due (stack_of stack.frames.items) (suc stack.operators) stack.parentheses) else machine.Refuse)) }
 {
-    if stack.operators < MAX_OPERATORS && stack.parentheses < MAX_OPEN {
+    if stack.operators < MOST_OPERATORS && stack.parentheses < MOST_OPEN_PARENTHESES {
         stack.operators += 1;
         Ok(Step::Go(Reading::StarDue(stack)))
     } else {
@@ -533,9 +528,9 @@ fn open_count(mut stack: Stack) -> Result<Step, Memory>
 // Another function and its parenthesis.
 fn open_call(mut stack: Stack, opening: Opening) -> Result<Step, Memory>
     ensures { IfOk result (λ s. move_of s
-        ≡ (if nat_lt stack.operators most_operators && nat_lt stack.parentheses most_open then Go (due (frame.Opened opening ∷ stack_of stack.frames.items) (suc stack.operators) (suc stack.parentheses)) else machine.Refuse)) }
+        ≡ (if nat_lt stack.operators most_operators && nat_lt stack.parentheses most_open_parentheses then Go (due (frame.Opened opening ∷ stack_of stack.frames.items) (suc stack.operators) (suc stack.parentheses)) else machine.Refuse)) }
 {
-    if stack.operators < MAX_OPERATORS {
+    if stack.operators < MOST_OPERATORS {
         stack.operators += 1;
         open(stack, opening)
     } else {

@@ -7,6 +7,7 @@ use Rattle.db_store.specs.Store.{drawn_next}
 use Rattle.db_txn.specs.Transaction.{Transaction}
 use Rattle.db_txn.specs.Transaction as working
 use Rattle.dl_base.specs.Faults.{step_fault}
+use Rattle.dl_base.specs.Limits.{most_numbers}
 use Rattle.dl_base.specs.declared.answer.Answer.{Answer}
 use Rattle.dl_base.specs.declared.answer.Answer.TheVariants as answers
 use Rattle.dl_base.specs.declared.answer.Refusal.TheVariants as reasons
@@ -28,7 +29,7 @@ use Rattle.meaning_history.specs.Sound.{AreSound}
 use Rattle.meaning_settling.specs.Keyed.{Keyed}
 use Rattle.meaning_settling.specs.Settling.{Moved}
 use Rattle.meaning_system.proofs.Stepping.{begun-moved}
-use Rattle.meaning_areas.specs.Full.{draw_full, most_numbers}
+use Rattle.meaning_areas.specs.Full.{draw_full}
 use Rattle.meaning_system.specs.Machine.{begin, begun, drawing, new_txn, step}
 use Rattle.meaning_system.specs.State.{State, Txn, number_of, numbered_txn, tables_of, txn_at, txn_of}
 use Rattle.meaning_system.specs.Writes.{writes}

@@ -4,6 +4,7 @@ use Rattle.std.proofs.lemmas.Bool.Decides.{nat_tests}
 use Rattle.std.specs.Option.{option_or}
 use Rattle.dl_areas.specs.Lists.{Journals, Write, grown_by}
 use Rattle.dl_areas.specs.Writing.{fitting, full_in, past_limit, refused, unless_full}
+use Rattle.dl_base.specs.Limits.{most_numbers}
 use Rattle.dl_base.specs.declared.fault.Full.{Full}
 use Rattle.dl_base.specs.declared.fault.Full.TheVariants as fulls
 use Rattle.dl_codec.specs.Layout.{u32, u64}
@@ -15,7 +16,7 @@ use Rattle.fm_manager.specs.Managed.{AreSpelled, IsSpelled, as_write, as_writes}
 use Rattle.meaning_areas.specs.Commits.{commit_of}
 use Rattle.meaning_areas.specs.Lists.{Folds, Written, in_links}
 use Rattle.meaning_opening.proofs.Plain.{none_some}
-use Rattle.meaning_areas.specs.Full.{most_numbers, number_full, opening_full}
+use Rattle.meaning_areas.specs.Full.{number_full, opening_full}
 use Rattle.meaning_system.specs.Writes.{when}
 use Rattle.sys_opening.proofs.Records.{counts}
 use Rattle.sys_opening.specs.Halting.{HaveSpellings}

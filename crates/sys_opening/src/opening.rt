@@ -1,7 +1,7 @@
 // The opening of the five areas.
 ghost use Rattle.std.specs.Prelude.{◌≡◌, ◌≢◌, ◌≤◌, ◌^◌, ℕ, Ok, Err, IfOk};
 ghost use Rattle.dl_areas.specs.Lists.{Lists};
-ghost use Rattle.dl_areas.specs.Opening.{AreOpened, IsOpened, Opens, OpensOne};
+ghost use Rattle.dl_areas.specs.Opening.{AreOpened, Opens};
 ghost use Rattle.dl_base.specs.Outside.{FaultCounted};
 ghost use Rattle.dl_base.specs.declared.area.Area.{Area as Areas_};
 ghost use Rattle.dl_base.specs.declared.fault.Full.{Full as Fulls};
