@@ -1,5 +1,5 @@
 // The tables of the record of a backup.
-ghost use Rattle.std.specs.Prelude.{◌≡◌, ◌&&◌, ◌∷◌, [], true, IfOk, map, nat_lt};
+ghost use Rattle.std.specs.Prelude.{◌≡◌, ◌&&◌, true, IfOk, map, nat_lt};
 ghost use Rattle.std.specs.Bool.{then_some};
 ghost use Rattle.std.specs.List.{list_all};
 ghost use Rattle.bk_backup.specs.Images.{can_put, tables_and, tables_of_images};

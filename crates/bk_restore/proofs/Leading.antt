@@ -2,6 +2,7 @@
 use Rattle.std.proofs.Common.{◌≡◌, ℕ, ◌&&◌, Bool, true, false, cond, not, bytes_eq, List, [], ◌∷◌, ◌++◌, map, filter, Option, Some, None, is_none, append-nil, append_assoc, refl, sym, ◌∙◌, ap}
 use Rattle.std.specs.List.{cons_option, filter_map}
 use Rattle.std.proofs.lemmas.List.{map-append}
+use Rattle.db_changes.specs.Handles.{new_handle}
 use Rattle.db_replay.specs.Applying.{are_new}
 use Rattle.db_replay.specs.Changes.{all_at_version, applied, apply, at_version}
 use Rattle.db_replay.specs.declared.changes.Change.{Change}
@@ -17,7 +18,7 @@ use Rattle.meaning_merge.proofs.TableChanges.{filter-named}
 use Rattle.meaning_tables.specs.Links.{links}
 use Rattle.meaning_tables.specs.Tables.{Rows, Tables, table_of, with_table, without_table}
 use Rattle.bk_losing.proofs.Named.{absent, with-middle}
-use Rattle.bk_restore.specs.Handles.{dropped_handle, is_new_in, kept_handle, new_handle, restore_handles}
+use Rattle.bk_restore.specs.Handles.{dropped_handle, is_new_in, kept_handle, restore_handles}
 use Rattle.bk_restore.proofs.Named.{AreOut, out-more, out-none, without-middle}
 
 some_same : (x y : Rows) → Some x ≡ Some y → x ≡ y

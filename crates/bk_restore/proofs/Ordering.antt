@@ -1,13 +1,13 @@
 -- The handles of new tables stand last.
 use Rattle.std.proofs.Common.{◌≡◌, Bool, true, cond, false, List, [], ◌∷◌, ◌++◌, map, Option, Some, None, append_assoc, refl, ◌∙◌, ap}
 use Rattle.std.specs.List.{cons_option, filter_map, list_all}
-use Rattle.db_changes.specs.Handles.{NewLast, makes, new_last}
+use Rattle.db_changes.specs.Handles.{NewLast, makes, new_handle, new_last}
 use Rattle.db_replay.specs.declared.changes.Change.{Change}
 use Rattle.db_replay.specs.declared.changes.Change.TheVariants as handles
 use Rattle.meaning_areas.specs.Same.{same_columns}
 use Rattle.meaning_merge.specs.Restoring.{is_kept, new_in}
 use Rattle.meaning_tables.specs.Tables.{Rows, Tables, table_of}
-use Rattle.bk_restore.specs.Handles.{dropped_handle, kept_handle, new_handle, restore_handles}
+use Rattle.bk_restore.specs.Handles.{dropped_handle, kept_handle, restore_handles}
 
 news-all : (us : Tables) → list_all makes (map new_handle us) ≡ true
 news-all [] = refl

@@ -1,6 +1,7 @@
 -- The changes of a restore as handles of the tables that they make: dropped tables, kept ones, new ones.
 use Rattle.std.specs.Prelude.{ℕ, Bool, not, if◌then◌else◌, List, ◌++◌, map, Option, Some, None}
 use Rattle.std.specs.List.{filter_map}
+use Rattle.db_changes.specs.Handles.{new_handle}
 use Rattle.db_replay.specs.declared.changes.Change.{Change}
 use Rattle.db_replay.specs.declared.changes.Change.TheVariants as handles
 use Rattle.meaning_areas.specs.Same.{same_columns}
@@ -13,9 +14,6 @@ dropped_handle t later = if is_kept (Some t.1) later then None else Some (handle
 abbrev pub kept_handle : List ℕ × Rows → Option Rows → Option Change
 kept_handle t None = None
 kept_handle t (Some later) = if same_columns t.1 later then Some (handles.Kept t.0 later) else None
-
-abbrev pub new_handle : List ℕ × Rows → Change
-new_handle t = handles.New t.0 t.1
 
 -- in the order of the changes of its record
 abbrev pub restore_handles : Tables → Tables → List Change

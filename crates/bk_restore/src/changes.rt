@@ -5,12 +5,14 @@ ghost use Rattle.std.specs.Option.{option_copied, option_to_list};
 ghost use Rattle.meaning_areas.specs.Same.{same_columns};
 ghost use Rattle.meaning_merge.specs.Merging.{new_by};
 ghost use Rattle.meaning_tables.specs.Tables.{table_of};
-ghost use Rattle.bk_restore.specs.Handles.{dropped_handle, is_new_in, kept_handle, kept_of, new_handle, restore_handles};
+ghost use Rattle.bk_restore.specs.Handles.{dropped_handle, is_new_in, kept_handle, kept_of, restore_handles};
+ghost use Rattle.db_changes.specs.Handles.{new_handle};
 ghost use Rattle.db_replay.specs.Applying.{AreNew, is_new};
 ghost use Rattle.db_replay.specs.Changes.{applied, apply};
 ghost use Rattle.meaning_merge.specs.Restoring as restoring;
 
-use crate::rows::{all_rows, row_changes};
+use crate::rows::row_changes;
+use db_changes::all_rows;
 use db_replay::Change;
 use dl_base::{Copied, List, Memory, Name, Same};
 use dl_codec::TableChange;

@@ -3,7 +3,7 @@ use Rattle.std.proofs.Common.{◌≡◌, ℕ, ◌==◌, Bool, true, false, not, 
 use Rattle.std.specs.List.{list_all}
 use Rattle.std.proofs.lemmas.Bool.{and_from, and_parts}
 use Rattle.meaning_tables.specs.Tables.{Rows, Tables, table_of, with_table, without_table}
-use Rattle.db_changes.specs.Touched.{AreCommitted, Follows, adds, are_committed, drops, keeps}
+use Rattle.db_changes.specs.Touched.{AreCommitted, FollowsBase, adds, are_committed, drops, keeps}
 
 some_same : (x y : Rows) → Some x ≡ Some y → x ≡ y
 some_same x y e = cc
@@ -20,12 +20,12 @@ not_it false e = refl
 put-version : (later was now : Rows) → Some later ≡ Some was → now.version ≡ was.version → now.version ≡ later.version
 put-version later was now e same = same ∙ ap (λ (t : Rows). t.version) (sym (some_same later was e))
 
-pub follows-committed : {base copy : Tables} → Follows base copy → AreCommitted base
+pub follows-committed : {base copy : Tables} → FollowsBase base copy → AreCommitted base
 follows-committed (adds new) = refl
 follows-committed (drops {base = base} t old of) = and_from (not (t.1.version == 0)) (are_committed base) (not_it (t.1.version == 0) old) (follows-committed of)
 follows-committed (keeps {base = base} t later old version of) = and_from (not (t.1.version == 0)) (are_committed base) (not_it (t.1.version == 0) old) (follows-committed of)
 
-pub follows-itself : (base : Tables) → AreCommitted base → Follows base base
+pub follows-itself : (base : Tables) → AreCommitted base → FollowsBase base base
 follows-itself [] all = adds refl
 follows-itself (t ∷ ts) all =
     let two = and_parts (not (t.1.version == 0)) (are_committed ts) all in
@@ -65,26 +65,26 @@ made-more (t ∷ ts) name now made none =
 
 -- a copy
 
-pub follows-put : {base copy : Tables} (name : List ℕ) (was now : Rows) → Follows base copy → table_of copy name ≡ Some was → now.version ≡ was.version → Follows base (with_table copy name now)
+pub follows-put : {base copy : Tables} (name : List ℕ) (was now : Rows) → FollowsBase base copy → table_of copy name ≡ Some was → now.version ≡ was.version → FollowsBase base (with_table copy name now)
 follows-put {copy = copy} name was now (adds made) is same = adds (made-put copy name was now made is same)
 follows-put name was now (drops t old of) is same = drops t old (follows-put name was now of is same)
 follows-put name was now (keeps {base = base} {copy = copy} t later old version of) is same = by (bytes_eq name t.0) is (λ e. follows-put name was now of e same)
   where
-    by : (b : Bool) → cond b (Some later) (table_of copy name) ≡ Some was → (table_of copy name ≡ Some was → Follows base (with_table copy name now))
-        → Follows (t ∷ base) (cond b ((t.0, now) ∷ copy) ((t.0, later) ∷ with_table copy name now))
+    by : (b : Bool) → cond b (Some later) (table_of copy name) ≡ Some was → (table_of copy name ≡ Some was → FollowsBase base (with_table copy name now))
+        → FollowsBase (t ∷ base) (cond b ((t.0, now) ∷ copy) ((t.0, later) ∷ with_table copy name now))
     by true e go = keeps t now old (put-version later was now e same ∙ version) of
     by false e go = keeps t later old version (go e)
 
-pub follows-drop : {base copy : Tables} (name : List ℕ) → Follows base copy → Follows base (without_table copy name)
+pub follows-drop : {base copy : Tables} (name : List ℕ) → FollowsBase base copy → FollowsBase base (without_table copy name)
 follows-drop {copy = copy} name (adds made) = adds (made-without copy name made)
 follows-drop name (drops t old of) = drops t old (follows-drop name of)
 follows-drop name (keeps {base = base} {copy = copy} t later old version of) = by (bytes_eq name t.0) (follows-drop name of)
   where
-    by : (b : Bool) → Follows base (without_table copy name) → Follows (t ∷ base) (cond b copy ((t.0, later) ∷ without_table copy name))
+    by : (b : Bool) → FollowsBase base (without_table copy name) → FollowsBase (t ∷ base) (cond b copy ((t.0, later) ∷ without_table copy name))
     by true go = drops t old of
     by false go = keeps t later old version go
 
-pub follows-add : {base copy : Tables} (name : List ℕ) (now : Rows) → Follows base copy → now.version ≡ 0 → Follows base (copy ++ (name, now) ∷ [])
+pub follows-add : {base copy : Tables} (name : List ℕ) (now : Rows) → FollowsBase base copy → now.version ≡ 0 → FollowsBase base (copy ++ (name, now) ∷ [])
 follows-add {copy = copy} name now (adds made) none = adds (made-more copy name now made none)
 follows-add name now (drops t old of) none = drops t old (follows-add name now of none)
 follows-add name now (keeps t later old version of) none = keeps t later old version (follows-add name now of none)

@@ -11,7 +11,7 @@ use Rattle.meaning_merge.specs.Merging.{AreNamed, Fate, becomes, fate_of, goes, 
 use Rattle.meaning_merge.proofs.Keeping.{at-head, each-found, found-each, name-self, past-head}
 use Rattle.meaning_tables.specs.Tables.{Rows, Tables, table_of}
 use Rattle.db_changes.specs.Handles.{dropped_handle, fate_in, handles, kept_handle, new_handle}
-use Rattle.db_changes.specs.Touched.{AreCommitted, Follows, adds, are_committed, drops, keeps}
+use Rattle.db_changes.specs.Touched.{AreCommitted, FollowsBase, adds, are_committed, drops, keeps}
 use Rattle.db_changes.proofs.Following.{are_made, follows-committed}
 
 none_some : (t : Rows) → Some t ≡ None → ⊥
@@ -84,7 +84,7 @@ made-gone (t ∷ ts) name b made = let two = and_parts (t.1.version == 0) (are_m
     by true one go = ap (λ v. cond v goes (cond (same_rows b t.1) stays (becomes t.1))) one
     by false one go = go
 
-copy-gone : {base copy : Tables} (name : List ℕ) (b : Rows) → Follows base copy → table_of base name ≡ None → fate_of (Some b) (table_of copy name) ≡ goes
+copy-gone : {base copy : Tables} (name : List ℕ) (b : Rows) → FollowsBase base copy → table_of base name ≡ None → fate_of (Some b) (table_of copy name) ≡ goes
 copy-gone {copy = copy} name b (adds made) none = made-gone copy name b made
 copy-gone name b (drops {base = base} t old of) none = copy-gone name b of (absent t base name none).1
 copy-gone name b (keeps {base = base} {copy = copy} t later old version of) none =
@@ -120,7 +120,7 @@ none-made (t ∷ ts) made none =
     let two = and_parts (t.1.version == 0) (are_made ts) made in
     absurd (cons_nil t (fresh ts) (sym (ap (λ v. cond v (t ∷ fresh ts) (fresh ts)) two.0) ∙ none))
 
-same-copy : {base copy : Tables} → Follows base copy → AreNamed base → AllStay copy base → fresh copy ≡ [] → same_tables base copy ≡ true
+same-copy : {base copy : Tables} → FollowsBase base copy → AreNamed base → AllStay copy base → fresh copy ≡ [] → same_tables base copy ≡ true
 same-copy {copy = copy} (adds made) named all none = ap (same_tables []) (none-made copy made none)
 same-copy (drops {base = base} {copy = copy} t old of) named all none = absurd (goes_stays (sym (copy-gone t.0 t.1 of named.0) ∙ all.0))
 same-copy (keeps {base = base} {copy = copy} t later old version of) named all none =
@@ -158,7 +158,7 @@ no-handles base named committed =
     ∙ ap (λ (ks : List Change). ([] ++ ks) ++ map new_handle (fresh base)) (none-kept base base all)
     ∙ ap (λ (ts : Tables). map new_handle ts) (none-fresh base old)
 
-pub nothing-changed : (base copy : Tables) → AreNamed base → Follows base copy → (handles base copy ≡ []) ↔ (same_tables base copy ≡ true)
+pub nothing-changed : (base copy : Tables) → AreNamed base → FollowsBase base copy → (handles base copy ≡ []) ↔ (same_tables base copy ≡ true)
 nothing-changed base copy named of = (forth, back)
   where
     forth : handles base copy ≡ [] → same_tables base copy ≡ true

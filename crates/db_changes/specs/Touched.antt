@@ -61,7 +61,7 @@ abbrev pub AreCommitted : Tables → Type 0
 AreCommitted tables = are_committed tables ≡ true
 
 -- A copy of committed tables has some of them, in their order, each of the version that it had; behind them stand those just made.
-pub data Follows : Tables → Tables → Type 0 where
-  adds : {copy : Tables} → list_all (λ t. t.1.version == 0) copy ≡ true → Follows [] copy
-  drops : {base copy : Tables} (t : List ℕ × Rows) → (t.1.version == 0) ≡ false → Follows base copy → Follows (t ∷ base) copy
-  keeps : {base copy : Tables} (t : List ℕ × Rows) (later : Rows) → (t.1.version == 0) ≡ false → later.version ≡ t.1.version → Follows base copy → Follows (t ∷ base) ((t.0, later) ∷ copy)
+pub data FollowsBase : Tables → Tables → Type 0 where
+  adds : {copy : Tables} → list_all (λ t. t.1.version == 0) copy ≡ true → FollowsBase [] copy
+  drops : {base copy : Tables} (t : List ℕ × Rows) → (t.1.version == 0) ≡ false → FollowsBase base copy → FollowsBase (t ∷ base) copy
+  keeps : {base copy : Tables} (t : List ℕ × Rows) (later : Rows) → (t.1.version == 0) ≡ false → later.version ≡ t.1.version → FollowsBase base copy → FollowsBase (t ∷ base) ((t.0, later) ∷ copy)

@@ -1,7 +1,6 @@
 // What a copy of tables differs in from its base, table by table, once as the changes of a record and once as handles. Of a table that
 // both have only the touched rows are looked at.
 ghost use Rattle.std.specs.Prelude.{◌≡◌, ◌==◌, ◌++◌, ◌∷◌, [], ◌&&◌, ℕ, IfOk, OnOk, Some, filter, map};
-ghost use Rattle.std.specs.Cmp.Lexicographic.{pointwise};
 ghost use Rattle.std.specs.List.{filter_map};
 ghost use Rattle.std.specs.Option.{option_copied, option_to_list};
 ghost use Rattle.meaning_areas.specs.Same.{same_columns, same_row, same_rows};
@@ -186,8 +185,10 @@ fn row_changes(
     }
 }
 
-// The changes of the rows of some numbers.
-fn changes_at(
+/// The changes that lead from the rows of a table to those of another at some row numbers, in the order of these: none at a number
+/// under which both have the same row, or no row. It costs a look in both for each number, and the bytes of the rows there.
+/// `Err` is want of memory, which comes only where there is a change.
+pub fn changes_at(
     alloc: Global,
     was: &Table,
     now: &Table,
@@ -230,8 +231,8 @@ fn put_change(
     }
 }
 
-// Whether a row is another than before.
-fn is_changed(was: Option<&Row>, row: &Row) -> bool
+/// Whether a row is another than before, or was not there before. It costs the bytes of the rows, and takes no memory.
+pub fn is_changed(was: Option<&Row>, row: &Row) -> bool
     ensures { (number : ℕ) → result ≡ merging.is_changed (option_copied was.entry) (number, row.now) }
 {
     match was {
@@ -303,8 +304,9 @@ fn new_change(alloc: Global, name: &Name, table: &Table) -> Result<TableChange, 
     ))
 }
 
-// All rows of a table, as changes that put them.
-fn all_rows(alloc: Global, table: &Table) -> Result<List<RowChange>, Memory>
+/// All rows of a table, as changes that put them, in the order of their numbers. It costs the bytes of the rows. `Err` is want of
+/// memory, which comes only where there is a row.
+pub fn all_rows(alloc: Global, table: &Table) -> Result<List<RowChange>, Memory>
     ensures { IfOk result (λ made. made ≡ map merging.row_change table.now.rows) }
 {
     let mut made = List::empty(alloc);

@@ -3,7 +3,7 @@ ghost use Rattle.std.specs.Prelude.{◌≡◌, ◌↔◌, ◌==◌, ◌++◌, �
 ghost use Rattle.std.specs.Cmp.Lexicographic.{pointwise};
 ghost use Rattle.std.specs.List.{IsDistinct};
 ghost use Rattle.db_changes.specs.Handles.{handles};
-ghost use Rattle.db_changes.specs.Touched.{Adds, AreCommitted, Covers, Follows, Leaves, Touched};
+ghost use Rattle.db_changes.specs.Touched.{Adds, AreCommitted, Covers, FollowsBase, Leaves, Touched};
 ghost use Rattle.db_replay.specs.Changes.{all_at_version, applied};
 ghost use Rattle.meaning_areas.specs.Same.{same_tables};
 ghost use Rattle.meaning_merge.specs.Merging.{AreNamed, merge};
@@ -31,14 +31,14 @@ pub fn handles_lead_to_merged_tables()
 /// Committed tables are a copy of themselves, and a statement leaves a copy: it puts a table of the same version in the place of
 /// one, or drops one, or adds one that was just made, of version 0.
 pub fn a_copy_follows_its_base()
-    ensures follows_itself { (base : Tables) → AreCommitted base → Follows base base }
-    ensures follows_after_put { (base copy : Tables) (name : List ℕ) (was now : Rows) → Follows base copy → table_of copy name ≡ Some was → now.version ≡ was.version → Follows base (with_table copy name now) }
-    ensures follows_after_drop { (base copy : Tables) (name : List ℕ) → Follows base copy → Follows base (without_table copy name) }
-    ensures follows_after_add { (base copy : Tables) (name : List ℕ) (now : Rows) → Follows base copy → now.version ≡ 0 → Follows base (copy ++ (name, now) ∷ []) }
+    ensures follows_itself { (base : Tables) → AreCommitted base → FollowsBase base base }
+    ensures follows_after_put { (base copy : Tables) (name : List ℕ) (was now : Rows) → FollowsBase base copy → table_of copy name ≡ Some was → now.version ≡ was.version → FollowsBase base (with_table copy name now) }
+    ensures follows_after_drop { (base copy : Tables) (name : List ℕ) → FollowsBase base copy → FollowsBase base (without_table copy name) }
+    ensures follows_after_add { (base copy : Tables) (name : List ℕ) (now : Rows) → FollowsBase base copy → now.version ≡ 0 → FollowsBase base (copy ++ (name, now) ∷ []) }
 {}
 
 /// There is no handle exactly where a copy of committed tables is the same as they are, if no name stands twice among them.
 pub fn no_handles_where_nothing_changed()
-    ensures named { (base copy : Tables) → AreNamed base → Follows base copy → (handles base copy ≡ []) ↔ (same_tables base copy ≡ true) }
-    ensures distinct { (base copy : Tables) → IsDistinct (pointwise ◌==◌) (map (λ t. t.0) base) → Follows base copy → (handles base copy ≡ []) ↔ (same_tables base copy ≡ true) }
+    ensures named { (base copy : Tables) → AreNamed base → FollowsBase base copy → (handles base copy ≡ []) ↔ (same_tables base copy ≡ true) }
+    ensures distinct { (base copy : Tables) → IsDistinct (pointwise ◌==◌) (map (λ t. t.0) base) → FollowsBase base copy → (handles base copy ≡ []) ↔ (same_tables base copy ≡ true) }
 {}

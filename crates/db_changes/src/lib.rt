@@ -7,6 +7,7 @@ mod laws;
 mod made;
 mod touched;
 
+pub use diff::{all_rows, changes_at, is_changed};
 pub use laws::{
     a_copy_follows_its_base, handles_lead_to_merged_tables, no_handles_where_nothing_changed,
     nothing_touched_covers, touched_rows_cover_a_change,

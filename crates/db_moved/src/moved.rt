@@ -1,6 +1,6 @@
 // What a copy gives and takes of links, where all but touched rows are known to be the base's.
-ghost use Rattle.std.specs.Prelude.{◌≡◌, ◌++◌, ◌∷◌, [], ℕ, IfOk, OnOk, Some, false};
-ghost use Rattle.std.specs.List.{flat_map, list_any};
+ghost use Rattle.std.specs.Prelude.{◌≡◌, ◌++◌, [], ℕ, IfOk, OnOk, false};
+ghost use Rattle.std.specs.List.{list_any};
 ghost use Rattle.db_changes.specs.Touched.{Covers, among, numbers_of};
 ghost use Rattle.meaning_tables.specs.Links as meant;
 ghost use Rattle.sql_table.specs.Lacking.{lacking_at};
@@ -8,11 +8,8 @@ ghost use Rattle.db_moved.specs.Moving.{Stay, StaysIn, is_kept, is_linked};
 
 use crate::same::has_same_columns;
 use db_changes::TouchedRows;
-use dl_base::{
-    Column, Copied, Kind, LinkNo, LinkRow, List, Memory, Name, Options, Path, Row, Value,
-};
-use dl_pages::Pages;
-use sql_table::{Table, Tables};
+use dl_base::{Column, Kind, LinkRow, List, Memory, Name};
+use sql_table::{Table, Tables, put_lacking_of, put_row_lacking};
 use std::alloc::Global;
 
 /// What a copy gives and what it takes: the links of the base whose numbers the copy lacks, and the links of the copy whose numbers
@@ -108,36 +105,6 @@ fn put_touched(
     }
 }
 
-// Puts the links of the rows of some numbers whose numbers others lack.
-fn put_lacking_of(
-    made: &mut List<LinkRow>,
-    table: &Table,
-    numbers: &Pages<u64>,
-    others: &Tables,
-) -> Result<(), Memory>
-    ensures { OnOk result (made.new ≡ made.old ++ flat_map (lacking_at (meant.links others.now) table.now) numbers.now) }
-{
-    for i in 0..numbers.len() {
-        put_lacking_at(made, table, *numbers.item(i), others)?;
-    }
-    Ok(())
-}
-
-// Puts the links of the row of a number whose numbers others lack.
-fn put_lacking_at(
-    made: &mut List<LinkRow>,
-    table: &Table,
-    number: u64,
-    others: &Tables,
-) -> Result<(), Memory>
-    ensures { OnOk result (made.new ≡ made.old ++ lacking_at (meant.links others.now) table.now number) }
-{
-    match table.row(number) {
-        Some(row) => put_row_lacking(made, table.columns(), row, others),
-        None => Ok(()),
-    }
-}
-
 // Whether a column is under link control.
 fn has_linked(columns: &List<Column>) -> bool
     ensures { result ≡ list_any (λ c. is_linked c.kind) columns.now }
@@ -170,85 +137,4 @@ fn put_all(made: &mut List<LinkRow>, table: &Table, others: &Tables) -> Result<(
         }
     }
     Ok(())
-}
-
-// Puts the links of a row whose numbers others lack.
-fn put_row_lacking(
-    made: &mut List<LinkRow>,
-    columns: &List<Column>,
-    row: &Row,
-    others: &Tables,
-) -> Result<(), Memory>
-    ensures { OnOk result (made.new ≡ made.old ++ meant.lacking (meant.row_links columns.now row.now.values) (meant.links others.now)) }
-{
-    let values = row.values.as_slice();
-    for (i, column) in columns.as_slice().iter().enumerate() {
-        if values.len() <= i {
-            return Ok(());
-        }
-        put_cell_lacking(made, column.kind, &values[i], others)?;
-    }
-    Ok(())
-}
-
-fn put_cell_lacking(
-    made: &mut List<LinkRow>,
-    kind: Kind,
-    value: &Value,
-    others: &Tables,
-) -> Result<(), Memory>
-    ensures { OnOk result (made.new ≡ made.old ++ meant.lacking (meant.cell_links kind value.now) (meant.links others.now)) }
-{
-    match kind {
-        Kind::Linked(options) => match value {
-            Value::Link(datalink) => match datalink.link {
-                Some(link) => put_if_lacking(made, link, &datalink.path, options, others),
-                None => Ok(()),
-            },
-            Value::Null => Ok(()),
-            Value::Int(_) => Ok(()),
-            Value::Text(_) => Ok(()),
-        },
-        Kind::Int => Ok(()),
-        Kind::Text(_) => Ok(()),
-        Kind::Free => Ok(()),
-    }
-}
-
-// Puts a link, where others lack its number.
-fn put_if_lacking(
-    made: &mut List<LinkRow>,
-    link: LinkNo,
-    path: &Path,
-    options: Options,
-    others: &Tables,
-) -> Result<(), Memory>
-    ensures { OnOk result (made.new ≡ made.old ++ meant.lacking (record { link = link; path = path.now; options = options } ∷ []) (meant.links others.now)) }
-{
-    if has_number(others, link) {
-        return Ok(());
-    }
-    made.push(LinkRow {
-        link,
-        path: path.copy()?,
-        options,
-    })?;
-    Ok(())
-}
-
-// Whether a link of tables has a number.
-fn has_number(tables: &Tables, link: LinkNo) -> bool
-    ensures { result ≡ list_any (λ y. meant.same_number link y.link) (meant.links tables.now) }
-{
-    for i in 0..tables.len() {
-        match tables.at(i) {
-            Some((_, table)) => {
-                if table.first_link(link).is_some() {
-                    return true;
-                }
-            }
-            None => return false,
-        }
-    }
-    false
 }

@@ -1,6 +1,6 @@
 // A commit as a whole: all changes are done to tables that share what they have with those before, and then it is asked whether each
 // row that they put stands among the others.
-ghost use Rattle.std.specs.Prelude.{◌≡◌, ◌&&◌, IfOk, IfSome, is_some, true};
+ghost use Rattle.std.specs.Prelude.{◌≡◌, IfOk, IfSome, is_some, true};
 ghost use Rattle.std.specs.Bool.{OnTrue, then_some};
 ghost use Rattle.std.specs.Option.{option_map};
 ghost use Rattle.dl_codec.specs.declared.rows.TableChange.TheVariants as changes_of;

@@ -1,7 +1,7 @@
 // Whether the tables after a commit fit: whether each row that it put stands among the others. All these rows are taken out of a
 // copy, one after another, and each is asked for among what is left. The rows that are left in the end stood in the tables before,
 // which fit; so no row is looked at that the commit leaves alone.
-ghost use Rattle.std.specs.Prelude.{◌≡◌, ◌&&◌, ◌∷◌, [], IfOk, OnOk, Some, None, MatchOption, true};
+ghost use Rattle.std.specs.Prelude.{◌≡◌, ◌&&◌, IfOk, OnOk, Some, None, true};
 ghost use Rattle.std.specs.Bool.{OnTrue};
 ghost use Rattle.meaning_tables.specs.Fits.{fits};
 ghost use Rattle.meaning_tables.specs.Tables.{row_of, table_of, without_row};

@@ -13,7 +13,7 @@ use Rattle.sql_run.specs.Outcomes as run
 use Rattle.db_txn.specs.Transaction.{is_evaluated, is_refused}
 
 -- what is told of an evaluation
-abbrev told : run.Evaluated → Evaluated
+abbrev told : run.Evaluation → Evaluated
 told e = record { answer = run.answer_of e.outcome; refused = is_refused e.outcome; tables = e.tables; next = e.next }
 
 defined : (tables : Tables) (k : ℕ) (r : Result Changed SqlFault) → after_change tables true k r ≡ told (run.after_change tables k run.done r)

@@ -16,7 +16,7 @@ use Rattle.meaning_statements.specs.Changing.{Changed, change}
 use Rattle.meaning_tables.specs.Fits.{RowsFit}
 use Rattle.meaning_tables.specs.Tables.{Rows, Tables, new_table, table_of, with_table, without_table}
 use Rattle.sql_rows.specs.Beside.{AgreeBeside}
-use Rattle.sql_run.specs.Outcomes.{Evaluated, after_change, counted, done, evaluated}
+use Rattle.sql_run.specs.Outcomes.{Evaluation, after_change, counted, done, evaluated}
 use Rattle.sql_run.specs.declared.evaluating.Outcome.{Outcome}
 use Rattle.db_txn.specs.Working.{AddsRows, AddsTo, IsWork, IsWorkOn, count_made}
 use Rattle.db_txn.specs.declared.work.Work.{Work}
@@ -123,8 +123,8 @@ module _ (base before after : Tables) (k next : ℕ) (touched more : Touched) (n
       → after_change before k tell r ≡ record { outcome = outcome; tables = after; next = next }
       → AddsTo names numbers touched more → IsDistinct (pointwise ◌==◌) (map (λ t. t.0) before) → AgreeBeside numbers before after → RowsFit after → next ≤ link_numbers → Was → Is
   by-change names tell outcome (Ok c) effect is adds distinct beside rows le was =
-      changes names (subst (λ (ts : Tables). EffectOf names before ts) (ap (λ (e : Evaluated). e.tables) is) (effect c refl)) adds distinct beside rows le was
-  by-change names tell outcome (Err fault) effect is adds distinct beside rows le was = stays names (ap (λ (e : Evaluated). e.tables) is) adds rows le was
+      changes names (subst (λ (ts : Tables). EffectOf names before ts) (ap (λ (e : Evaluation). e.tables) is) (effect c refl)) adds distinct beside rows le was
+  by-change names tell outcome (Err fault) effect is adds distinct beside rows le was = stays names (ap (λ (e : Evaluation). e.tables) is) adds rows le was
 
   pub works : (stmt : Stmt) (context : Context) (outcome : Outcome) → evaluated before stmt context k ≡ record { outcome = outcome; tables = after; next = next }
       → AddsRows stmt numbers touched more → IsDistinct (pointwise ◌==◌) (map (λ t. t.0) before) → AgreeBeside numbers before after → RowsFit after → next ≤ link_numbers → Was → Is
@@ -133,10 +133,10 @@ module _ (base before after : Tables) (k next : ℕ) (touched more : Touched) (n
   works (statements.Insert name names tuples) context outcome is adds = by-change (name ∷ []) counted outcome (change before (statements.Insert name names tuples) context k) (λ c e. effect_of before (statements.Insert name names tuples) context k c e) is adds
   works (statements.Update name sets filter) context outcome is adds = by-change (name ∷ []) counted outcome (change before (statements.Update name sets filter) context k) (λ c e. effect_of before (statements.Update name sets filter) context k c e) is adds
   works (statements.Delete name filter) context outcome is adds = by-change (name ∷ []) counted outcome (change before (statements.Delete name filter) context k) (λ c e. effect_of before (statements.Delete name filter) context k c e) is adds
-  works (statements.Select query) context outcome is adds = λ distinct beside rows le was. stays [] (ap (λ (e : Evaluated). e.tables) is) adds rows le was
-  works statements.Begin context outcome is adds = λ distinct beside rows le was. stays [] (ap (λ (e : Evaluated). e.tables) is) adds rows le was
-  works statements.Commit context outcome is adds = λ distinct beside rows le was. stays [] (ap (λ (e : Evaluated). e.tables) is) adds rows le was
-  works statements.Rollback context outcome is adds = λ distinct beside rows le was. stays [] (ap (λ (e : Evaluated). e.tables) is) adds rows le was
+  works (statements.Select query) context outcome is adds = λ distinct beside rows le was. stays [] (ap (λ (e : Evaluation). e.tables) is) adds rows le was
+  works statements.Begin context outcome is adds = λ distinct beside rows le was. stays [] (ap (λ (e : Evaluation). e.tables) is) adds rows le was
+  works statements.Commit context outcome is adds = λ distinct beside rows le was. stays [] (ap (λ (e : Evaluation). e.tables) is) adds rows le was
+  works statements.Rollback context outcome is adds = λ distinct beside rows le was. stays [] (ap (λ (e : Evaluation). e.tables) is) adds rows le was
 
 -- THE BEGIN
 

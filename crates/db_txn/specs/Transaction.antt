@@ -8,13 +8,13 @@ use Rattle.meaning_merge.specs.Merging.{commit_changes}
 use Rattle.meaning_system.specs.Claims.{with_names}
 use Rattle.meaning_system.specs.Sql.{named_by}
 use Rattle.meaning_tables.specs.Tables.{Tables}
-use Rattle.sql_run.specs.Outcomes.{Evaluated}
+use Rattle.sql_run.specs.Outcomes.{Evaluation}
 use Rattle.sql_run.specs.declared.evaluating.Outcome.{Outcome}
 use Rattle.sql_run.specs.declared.evaluating.Outcome.TheVariants as outcomes
 use Rattle.db_txn.specs.Branching.{has_branch}
 
 -- The last evaluation: its outcome, and what it found.
-pub record Kept : Type 0 where
+pub record LastEvaluation : Type 0 where
   pub outcome : Outcome
   pub copy : Tables
   pub named : List (List ℕ)
@@ -31,7 +31,7 @@ pub record Transaction : Type 0 where
   pub named : List (List ℕ)
   pub next : ℕ
   pub made : Bool
-  pub kept : Option Kept
+  pub kept : Option LastEvaluation
 
 -- a session without a transaction
 abbrev pub vacant : ℕ → Transaction
@@ -53,7 +53,7 @@ is_refused (outcomes.Refused fault) = true
 is_refused _ = false
 
 -- after the evaluation of a statement, which is kept with what it found
-abbrev pub after_evaluation : Transaction → Stmt → Evaluated → Transaction
+abbrev pub after_evaluation : Transaction → Stmt → Evaluation → Transaction
 after_evaluation t stmt e = record {
   session = t.session;
   tx = t.tx;
@@ -66,12 +66,12 @@ after_evaluation t stmt e = record {
 }
 
 -- without the last evaluation, but with the tables that it named
-abbrev pub back_to : Transaction → Option Kept → Transaction
+abbrev pub back_to : Transaction → Option LastEvaluation → Transaction
 back_to t None = t
 back_to t (Some k) = record { session = t.session; tx = t.tx; base = t.base; copy = k.copy; named = t.named; next = k.next; made = t.made; kept = None }
 
 -- without the last evaluation, and without the tables that it named first
-abbrev pub undone_to : Transaction → Option Kept → Transaction
+abbrev pub undone_to : Transaction → Option LastEvaluation → Transaction
 undone_to t None = t
 undone_to t (Some k) = record { session = t.session; tx = t.tx; base = t.base; copy = k.copy; named = k.named; next = k.next; made = t.made; kept = None }
 

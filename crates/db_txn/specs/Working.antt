@@ -8,7 +8,7 @@ use Rattle.meaning_merge.specs.History.{changed_by}
 use Rattle.meaning_tables.specs.Fits.{RowsFit}
 use Rattle.meaning_tables.specs.Tables.{Tables}
 use Rattle.sql_run.specs.declared.evaluating.Outcome.TheVariants as outcomes
-use Rattle.db_txn.specs.Transaction.{Kept}
+use Rattle.db_txn.specs.Transaction.{LastEvaluation}
 use Rattle.db_txn.specs.declared.work.Before.{Before}
 use Rattle.db_txn.specs.declared.work.Work.{Work}
 
@@ -33,7 +33,7 @@ IsBefore base None = Unit {0}
 IsBefore base (Some b) = IsWorkOn base b.work × (b.outcome ≢ outcomes.Refused faults.Memory)
 
 -- what contracts see of it
-abbrev pub kept_of : Option Before → Option Kept
+abbrev pub kept_of : Option Before → Option LastEvaluation
 kept_of None = None
 kept_of (Some b) = Some (record { outcome = b.outcome; copy = b.work.copy; named = b.work.named; next = b.work.next })
 

@@ -1,13 +1,11 @@
 -- The layouts of the area Archive are sound.
-use Rattle.std.specs.Prelude.{◌≡◌, ℕ, zero, suc, List, [], ◌∷◌, ◌++◌, Option, Some, None, refl}
+use Rattle.std.specs.Prelude.{◌≡◌, ℕ, zero, suc, List, [], ◌∷◌, ◌++◌, Option, Some, refl}
 use Rattle.dl_codec.specs.declared.archive.ArchiveRecord.{ArchiveRecord}
 use Rattle.dl_codec.specs.declared.archive.ArchiveRecord.TheVariants as records
 use Rattle.dl_codec.specs.Archive.{file_copy_of, fields_of_file_copy, file_copy, archive_record}
-use Rattle.dl_codec.specs.Files.{owner}
 use Rattle.dl_codec.proofs.FilesSound.{owner_sound}
-use Rattle.dl_codec.specs.Layout.{IsBytes, Takes, IsSound, text, pair, whole, Decodes}
-use Rattle.dl_codec.proofs.Sound.{tag_takes, bare_takes, u32_sound, u64_sound, bool_sound, name_sound, text_sound, option_sound, pair_sound, along_sound, list_sound, whole-spelling, whole_decodes}
-use Rattle.dl_codec.specs.Values.{link_number, exactly}
+use Rattle.dl_codec.specs.Layout.{IsBytes, Takes, IsSound, whole, Decodes}
+use Rattle.dl_codec.proofs.Sound.{tag_takes, text_sound, pair_sound, along_sound, whole-spelling, whole_decodes}
 use Rattle.dl_codec.proofs.ValuesSound.{link_number_sound, exactly_sound}
 
 pub file_copy_sound : IsSound file_copy

@@ -1,10 +1,10 @@
 -- The layouts of the area Backups are sound.
-use Rattle.std.specs.Prelude.{◌≡◌, ℕ, zero, suc, List, [], ◌∷◌, ◌++◌, Option, Some, None, refl}
+use Rattle.std.specs.Prelude.{◌≡◌, ℕ, zero, suc, List, [], ◌∷◌, ◌++◌, Option, Some, refl}
 use Rattle.dl_codec.specs.declared.backups.BackupRecord.{BackupRecord}
 use Rattle.dl_codec.specs.declared.backups.BackupRecord.TheVariants as records
 use Rattle.dl_codec.specs.Backups.{table_image_of, fields_of_table_image, table_image, backup, backup_record}
-use Rattle.dl_codec.specs.Layout.{IsBytes, Takes, IsSound, u64, name, pair, list, whole, Decodes}
-use Rattle.dl_codec.proofs.Sound.{tag_takes, bare_takes, u32_sound, u64_sound, bool_sound, name_sound, text_sound, option_sound, pair_sound, along_sound, list_sound, whole-spelling, whole_decodes}
+use Rattle.dl_codec.specs.Layout.{IsBytes, Takes, IsSound, u64, pair, list, whole, Decodes}
+use Rattle.dl_codec.proofs.Sound.{tag_takes, u64_sound, name_sound, pair_sound, along_sound, list_sound, whole-spelling, whole_decodes}
 use Rattle.dl_codec.specs.Values.{column, value}
 use Rattle.dl_codec.proofs.ValuesSound.{column_sound, value_sound}
 

@@ -1,10 +1,9 @@
 -- Small values as bytes: what the layouts make of them.
-use Rattle.std.proofs.Common.{◌≡◌, ℕ, List, [], ◌∷◌, ◌++◌, codes, Some, None, true, false, refl, negsuc}
-use Rattle.std.specs.Int.{to_be_bytes}
+use Rattle.std.proofs.Common.{◌≡◌, [], ◌∷◌, codes, Some, None, true, false, refl, negsuc}
 use Rattle.dl_base.specs.declared.file.FileChange.TheVariants as changes
 use Rattle.dl_base.specs.declared.file.Owner.{Owner}
 use Rattle.dl_codec.specs.declared.files.FilesRecord.TheVariants as files
-use Rattle.dl_codec.specs.Layout.{pair, u32, u64, i64, bool, text, path, name, whole}
+use Rattle.dl_codec.specs.Layout.{pair, u32, u64, i64, bool, text, path, name}
 use Rattle.dl_codec.specs.Files.{owner, file_row, file_change, files_record}
 
 -- a pair of numbers, the second below 0

@@ -1,10 +1,10 @@
 -- The layouts of the area Files are sound.
-use Rattle.std.specs.Prelude.{◌≡◌, ℕ, zero, suc, List, [], ◌∷◌, ◌++◌, Option, Some, None, true, refl}
+use Rattle.std.specs.Prelude.{◌≡◌, ℕ, zero, suc, List, [], ◌∷◌, ◌++◌, Option, Some, refl}
 use Rattle.dl_base.specs.declared.file.FileChange.{FileChange}
 use Rattle.dl_base.specs.declared.file.FileChange.TheVariants as changes
 use Rattle.dl_codec.specs.declared.files.FilesRecord.{FilesRecord}
 use Rattle.dl_codec.specs.declared.files.FilesRecord.TheVariants as files
-use Rattle.dl_codec.specs.Layout.{IsBytes, Takes, IsSound, whole, Decodes, u32, u64, bool, text, path, name, option, pair, list}
+use Rattle.dl_codec.specs.Layout.{IsBytes, Takes, IsSound, whole, Decodes, u64, bool, text, path, name, option, pair, list}
 use Rattle.dl_codec.proofs.Sound.{tag_takes, u64_sound, bool_sound, text_sound, path_sound, name_sound, option_sound, pair_sound, along_sound, list_sound, whole-spelling, is_whole, whole_decodes}
 use Rattle.dl_codec.specs.Files.{owner_of, fields_of_owner, owner, file_row_of, fields_of_file_row, file_row, owner_change, file_change, batch, files_record}
 

@@ -1,10 +1,10 @@
 -- The layouts of the area Links are sound.
-use Rattle.std.specs.Prelude.{◌≡◌, ℕ, zero, suc, List, [], ◌∷◌, ◌++◌, Option, Some, None, refl}
+use Rattle.std.specs.Prelude.{◌≡◌, ℕ, zero, suc, List, [], ◌∷◌, ◌++◌, Option, Some, refl}
 use Rattle.dl_codec.specs.declared.links.LinksRecord.{LinksRecord}
 use Rattle.dl_codec.specs.declared.links.LinksRecord.TheVariants as records
-use Rattle.dl_codec.specs.Layout.{IsBytes, Takes, IsSound, u32, u64, bool, pair, list, whole, Decodes}
+use Rattle.dl_codec.specs.Layout.{IsBytes, Takes, IsSound, u32, u64, whole, Decodes}
 use Rattle.dl_codec.specs.Links.{taken_of, fields_of_taken, taken, prepared, links_record}
-use Rattle.dl_codec.proofs.Sound.{tag_takes, bare_takes, u32_sound, u64_sound, bool_sound, name_sound, text_sound, option_sound, pair_sound, along_sound, list_sound, whole-spelling, whole_decodes}
+use Rattle.dl_codec.proofs.Sound.{tag_takes, u32_sound, u64_sound, bool_sound, pair_sound, along_sound, list_sound, whole-spelling, whole_decodes}
 use Rattle.dl_codec.specs.Values.{link_row}
 use Rattle.dl_codec.proofs.ValuesSound.{link_row_sound}
 

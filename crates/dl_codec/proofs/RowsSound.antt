@@ -1,12 +1,12 @@
 -- The layouts of the area Rows are sound.
-use Rattle.std.specs.Prelude.{◌≡◌, ℕ, zero, suc, List, [], ◌∷◌, ◌++◌, Option, Some, None, refl}
+use Rattle.std.specs.Prelude.{◌≡◌, ℕ, zero, suc, List, [], ◌∷◌, ◌++◌, Option, Some, refl}
 use Rattle.dl_codec.specs.declared.rows.RowsRecord.{RowsRecord}
 use Rattle.dl_codec.specs.declared.rows.RowsRecord.TheVariants as records
 use Rattle.dl_codec.specs.declared.rows.TableChange.{TableChange}
 use Rattle.dl_codec.specs.declared.rows.TableChange.TheVariants as changes
-use Rattle.dl_codec.specs.Layout.{IsBytes, Takes, IsSound, u32, u64, bool, name, option, pair, list, whole, Decodes}
+use Rattle.dl_codec.specs.Layout.{IsBytes, Takes, IsSound, u32, u64, list, whole, Decodes}
 use Rattle.dl_codec.specs.Rows.{row_change_of, fields_of_row_change, row_change, Done, dropped, new, kept, new_fields, kept_fields, done, change_by, fields_of_table_change, table_change, commit, rows_record}
-use Rattle.dl_codec.proofs.Sound.{tag_takes, bare_takes, u32_sound, u64_sound, bool_sound, name_sound, text_sound, option_sound, pair_sound, along_sound, list_sound, whole-spelling, whole_decodes}
+use Rattle.dl_codec.proofs.Sound.{tag_takes, bare_takes, u32_sound, u64_sound, bool_sound, name_sound, option_sound, pair_sound, along_sound, list_sound, whole-spelling, whole_decodes}
 use Rattle.dl_codec.specs.Values.{column, value}
 use Rattle.dl_codec.proofs.ValuesSound.{column_sound, value_sound}
 

@@ -1,5 +1,5 @@
 -- The layouts that the areas of tables and links share are sound.
-use Rattle.std.proofs.Common.{◌≡◌, ℕ, zero, suc, ◌≤◌, List, [], ◌∷◌, ◌++◌, length, take, drop, false, ltb, Option, Some, None, refl, sym, ap, subst, ◌∙◌, arith}
+use Rattle.std.proofs.Common.{◌≡◌, ℕ, zero, suc, ◌≤◌, List, [], ◌∷◌, ◌++◌, length, take, drop, false, ltb, Option, Some, refl, sym, subst, arith}
 use Rattle.std.proofs.lemmas.Bool.{ltb-false, le-ltb}
 use Rattle.std.proofs.lemmas.List.{take_at, drop_at, take-append-drop, length-append, length-take}
 use Rattle.dl_base.specs.declared.column.ColumnRule.TheVariants as rules
@@ -15,9 +15,9 @@ use Rattle.dl_base.specs.declared.column.ColumnRule.{ColumnRule}
 use Rattle.dl_base.specs.declared.value.Value.{Value}
 use Rattle.dl_base.specs.declared.value.Value.TheVariants as values
 use Rattle.dl_base.specs.Steps.{◌>>=◌}
-use Rattle.dl_codec.specs.Layout.{Layout, IsBytes, Takes, IsSound, u32, u64, i64, text, bool, path, name, bare, option, pair, along, list}
-use Rattle.dl_codec.proofs.Sound.{bind_some, guard_some, some_is, tag_takes, bare_takes, u32_sound, u64_sound, i64_sound, bool_sound, text_sound, path_sound, name_sound, option_sound, pair_sound, along_sound, only_sound, list_sound}
-use Rattle.dl_codec.specs.Values.{case, case_reading, exactly, link_number, read_byte, read_of, write_byte, write_of, unlink_byte, unlink_of, options_of, fields_of_options, options, kind, rule_byte, rule_of, column_of, fields_of_column, column, datalink_of, fields_of_datalink, datalink, value, link_row_of, fields_of_link_row, link_row}
+use Rattle.dl_codec.specs.Layout.{IsBytes, Takes, IsSound, u32, u64, i64, text, bare}
+use Rattle.dl_codec.proofs.Sound.{bind_some, guard_some, some_is, tag_takes, bare_takes, u32_sound, u64_sound, i64_sound, bool_sound, text_sound, path_sound, name_sound, option_sound, pair_sound, along_sound, only_sound}
+use Rattle.dl_codec.specs.Values.{case, exactly, link_number, read_byte, read_of, write_byte, write_of, unlink_byte, unlink_of, options_of, fields_of_options, options, kind, rule_byte, rule_of, column_of, fields_of_column, column, datalink_of, fields_of_datalink, datalink, value, link_row_of, fields_of_link_row, link_row}
 use Rattle.meaning_tables.specs.OptionRows.{is_option_row}
 
 module _ {A : Type 0} (byte : A → ℕ) (of : ℕ → Option A) (back : (b : ℕ) (a : A) → of b ≡ Some a → byte a ≡ b) where

@@ -35,9 +35,9 @@ abbrev pub Fails : {A : Type 0} → ReadFault → Option A → Type 0
 Fails Memory read = Unit {0}
 Fails Bad read = read ≡ None
 
-abbrev pub AnswersReading : {X A : Type 0} → (X → A) → Result X ReadFault → Option A → Type 0
-AnswersReading view (Ok x) read = read ≡ Some (view x)
-AnswersReading view (Err e) read = Fails e read
+abbrev pub DecodesTo : {X A : Type 0} → (X → A) → Result X ReadFault → Option A → Type 0
+DecodesTo view (Ok x) read = read ≡ Some (view x)
+DecodesTo view (Err e) read = Fails e read
 
 -- ---- layouts
 

@@ -1,5 +1,5 @@
 -- The layouts that the areas of tables and links share: link numbers, options, columns, values, rows and links.
-use Rattle.std.specs.Prelude.{◌≡◌, ℕ, ℤ, zero, suc, ◌==◌, length, List, [], ◌∷◌, Option, Some, None, Bool, take, drop, nat_lt, if◌then◌else◌}
+use Rattle.std.specs.Prelude.{◌≡◌, ℕ, zero, suc, length, List, [], ◌∷◌, Option, Some, None, Bool, take, drop, nat_lt, if◌then◌else◌}
 use Rattle.dl_base.specs.declared.column.Column.{Column}
 use Rattle.dl_base.specs.declared.column.ColumnRule.{ColumnRule}
 use Rattle.dl_base.specs.declared.column.ColumnRule.TheVariants as rules
@@ -18,7 +18,7 @@ use Rattle.dl_base.specs.declared.value.LinkRow.{LinkRow}
 use Rattle.dl_base.specs.declared.value.Value.{Value}
 use Rattle.dl_base.specs.declared.value.Value.TheVariants as values
 use Rattle.dl_base.specs.Steps.{◌>>=◌}
-use Rattle.dl_codec.specs.Layout.{Layout, behind, bare, u32, u64, i64, bool, text, path, name, option, pair, along, list, only}
+use Rattle.dl_codec.specs.Layout.{Layout, behind, bare, u32, u64, i64, bool, text, path, name, option, pair, along, only}
 use Rattle.meaning_tables.specs.OptionRows.{is_option_row}
 
 -- one byte for each case of an enumeration; a case that no byte stands for has no spelling

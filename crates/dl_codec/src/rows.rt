@@ -1,6 +1,6 @@
 // The records of the area Rows.
 ghost use Rattle.std.specs.Prelude.{◌≡◌, ◌++◌, OnOk, OnErr, IfOk};
-ghost use Rattle.dl_codec.specs.Layout.{AnswersReading, Decodes, behind, whole};
+ghost use Rattle.dl_codec.specs.Layout.{DecodesTo, Decodes, behind, whole};
 ghost use Rattle.dl_codec.specs.Rows.{kept_fields, new_fields, rows_record};
 ghost use Rattle.dl_codec.specs.declared.rows.TableChange.TheVariants as changes;
 
@@ -123,7 +123,7 @@ impl Spelled for TableChange {
 
 // The change of a table that is new, whose fields stand at the front.
 fn new_table(alloc: Global, table: Name, bytes: &[u8]) -> Result<(TableChange, &[u8]), ReadFault>
-    ensures { AnswersReading (λ x. (x.0, x.1.now)) result (behind (λ p. changes.New table p.0 p.1.0 p.1.1) new_fields bytes.now) }
+    ensures { DecodesTo (λ x. (x.0, x.1.now)) result (behind (λ p. changes.New table p.0 p.1.0 p.1.1) new_fields bytes.now) }
 {
     match NewFields::get(alloc, bytes) {
         Ok(((columns, (next, rows)), rest)) => {
@@ -138,7 +138,7 @@ fn new_table(alloc: Global, table: Name, bytes: &[u8]) -> Result<(TableChange, &
 
 // The change of a table that stays, whose fields stand at the front.
 fn kept_table(alloc: Global, table: Name, bytes: &[u8]) -> Result<(TableChange, &[u8]), ReadFault>
-    ensures { AnswersReading (λ x. (x.0, x.1.now)) result (behind (λ p. changes.Kept table p.0 p.1) kept_fields bytes.now) }
+    ensures { DecodesTo (λ x. (x.0, x.1.now)) result (behind (λ p. changes.Kept table p.0 p.1) kept_fields bytes.now) }
 {
     match KeptFields::get(alloc, bytes) {
         Ok(((next, rows), rest)) => Ok((TableChange::Kept(table, next, rows), rest)),

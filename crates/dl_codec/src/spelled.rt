@@ -1,6 +1,6 @@
 // How values are put into bytes and read from them: numbers, flags, options, pairs, lists, texts, paths and names.
 ghost use Rattle.std.specs.Prelude.{◌≡◌, ◌++◌, OnOk};
-ghost use Rattle.dl_codec.specs.Layout.{Layout, AnswersReading, times, text};
+ghost use Rattle.dl_codec.specs.Layout.{Layout, DecodesTo, times, text};
 
 use crate::read_fault::ReadFault;
 use dl_base::{List, Memory, Name, Path, Text, is_name, is_path};
@@ -16,7 +16,7 @@ pub trait Spelled: Drop {
 
     /// The value at the front, and the bytes behind it, which are not copied.
     fn get(alloc: Global, bytes: &[u8]) -> Result<(Self, &[u8]), ReadFault>
-        ensures { AnswersReading (λ x. (x.0, x.1.now)) result (layout.reading bytes.now) };
+        ensures { DecodesTo (λ x. (x.0, x.1.now)) result (layout.reading bytes.now) };
 }
 
 #[tactic(auto, unfolding(crate::specs::Layout::u32))]
@@ -171,7 +171,7 @@ fn items_of<T: Spelled>(
     count: u32,
     bytes: &[u8],
 ) -> Result<(List<T>, &[u8]), ReadFault>
-    ensures { AnswersReading (λ x. (x.0, x.1.now)) result (times T.layout.reading count bytes.now) }
+    ensures { DecodesTo (λ x. (x.0, x.1.now)) result (times T.layout.reading count bytes.now) }
 {
     let mut items = List::empty(alloc);
     let mut rest = bytes;
@@ -198,7 +198,7 @@ fn put_text(bytes: &[u8], into: &mut List<u8>) -> Result<(), Memory>
 /// The bytes of the text at the front, and the bytes behind it, none of them copied.
 #[tactic(auto, unfolding(crate::specs::Layout::text))]
 fn text_part(alloc: Global, bytes: &[u8]) -> Result<(&[u8], &[u8]), ReadFault>
-    ensures { AnswersReading (λ x. (x.0.now, x.1.now)) result (text.reading bytes.now) }
+    ensures { DecodesTo (λ x. (x.0.now, x.1.now)) result (text.reading bytes.now) }
 {
     let (count, rest) = u32::get(alloc, bytes)?;
     let count = count as usize;

@@ -109,6 +109,10 @@ module _ {T : Type 0} where
       ranked [] is none else_ = rw (none refl) follows
       ranked (x ∷ xs) is none else_ = is ∙ sym (else_ (omega arith))
 
+  -- a row of parts, then one part and one more, and then another row
+  pub page_pushed : (before first second behind none one two three four : List T) → none ≡ [] → one ≡ none ++ before → two ≡ one ++ first → three ≡ two ++ second → four ≡ three ++ behind → four ≡ before ++ ((first ++ second) ++ behind)
+  page_pushed before first second behind none one two three four is_none is_one is_two is_three is_four = is_four ∙ ap (λ l. l ++ behind) (is_three ∙ ap (λ l. l ++ second) (is_two ∙ ap (λ l. l ++ first) (is_one ∙ ap (λ l. l ++ before) is_none)) ∙ append_assoc before first second) ∙ append_assoc before (first ++ second) behind
+
   page-is : (before behind : List (List T × ℕ)) (made first second : List T × ℕ) (page : List T) → page ≡ flatten before ++ ((first.0 ++ second.0) ++ flatten behind) → first ≡ made → second.0 ≡ [] → page ≡ flatten before ++ (made.0 ++ flatten behind)
   page-is before behind made first second page is one none = is ∙ ap (λ l. flatten before ++ (l ++ flatten behind)) (ap (λ l. first.0 ++ l) none ∙ append-nil first.0 ∙ ap (λ v. v.0) one)
 

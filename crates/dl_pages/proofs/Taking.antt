@@ -44,6 +44,12 @@ module _ {T : Type 0} where
   pub part_below : (i : ℕ) (ps : List (List T × ℕ)) (d : List T × ℕ) → i < length ps → (get_or ps i d).1 < most (λ v. v.1 + 1) ps
   part_below i ps d within = omega (arith, at_most (λ v. v.1 + 1) ps i d within)
 
+  -- nothing changes where a part is put in its own place
+  pub set_same : (i : ℕ) (ps : List (List T × ℕ)) (q d : List T × ℕ) → i < length ps → q ≡ get_or ps i d → slice_set ps i q ≡ ps
+  set_same i [] q d within is = refl
+  set_same zero (p ∷ ps) q d within is = rw is refl
+  set_same (suc i) (p ∷ ps) q d within is = ap (λ l. p ∷ l) (set_same i ps q d (omega arith) is)
+
   -- the items of parts of which one has an item less
   pub flatten_taken : (n i at left : ℕ) (ps : List (List T × ℕ)) (q d : List T × ℕ) → IsSeat (take n ps) i at left → q.0 ≡ remove (get_or ps at d).0 left → flatten (take n (slice_set ps at q)) ≡ remove (flatten (take n ps)) i
   flatten_taken n i at left ps q d seat is =
@@ -78,6 +84,10 @@ module _ {T : Type 0} where
 
   within-all : (n i at left : ℕ) (ps : List (List T × ℕ)) → IsSeat (take n ps) i at left → i < length (flatten (take n ps))
   within-all n i at left ps seat = omega (arith, seat.2, up-to (at + 1) (take n ps))
+
+  -- what stays true of a part as an item is taken out of its leaf
+  pub taken_row : (rank : T → ℕ) (len r i : ℕ) (xs ys : List T) → len ≡ length xs → i < length xs → (ys ≡ remove xs i) × HasRank rank r ys → (len - 1 ≡ length ys) × HasRank rank r ys
+  taken_row rank len r i xs ys total within is = (omega (arith, total, ap length is.0, length-remove xs i within), is.1)
 
   -- what stays true of a page as an item is taken out of a part
   pub taken_kept : (rank : T → ℕ) (n len r i at left : ℕ) (ps : List (List T × ℕ)) (q d e : List T × ℕ) → n ≤ 4 → len ≡ length (flatten (take n ps)) → AreFilled (take n ps) → IsSeat (take n ps) i at left → q.0 ≡ remove (get_or ps at d).0 left → 1 < length (get_or ps at d).0 → HasRank rank r (get_or (slice_set ps at q) 0 e).0 → (n ≤ 4) × (len - 1 ≡ length (flatten (take n (slice_set ps at q)))) × HasRank rank r (flatten (take n (slice_set ps at q))) × AreFilled (take n (slice_set ps at q))

@@ -498,7 +498,6 @@ impl<T: Drop + Ranked> Part<T> {
     // Takes an item out where it stands, and makes a further change; false where another list shares a page on the way to the item,
     // where a leaf would be left without items, or where the change is not made, and then nothing has changed. How high the part
     // stands stays.
-    #[tactic(auto, using(crate::proofs::Taking::flatten_taken, crate::proofs::Taking::most_taken))]
     pub fn take<S: Step>(&mut self, index: usize, step: &mut S) -> bool
         requires { index < length self.old.0 }
         ensures taken { result ≡ true → self.new.0 ≡ remove self.old.0 index }

@@ -1,5 +1,5 @@
 -- Entries in any order, and the copies that they are.
-use Rattle.std.proofs.Common.{◌≡◌, ◌&&◌, ℕ, Bool, true, false, cond, List, [], ◌∷◌, ◌++◌, map, nat_eq, get_or, bytes_eq, is_none, is_some, not, refl, sym, ap, subst, ◌∙◌, Option, Some, None, IfSome}
+use Rattle.std.proofs.Common.{◌≡◌, ◌&&◌, ℕ, Bool, true, false, cond, List, [], ◌∷◌, ◌++◌, nat_eq, get_or, bytes_eq, is_none, is_some, not, refl, sym, ap, subst, ◌∙◌, Option, Some, None, IfSome}
 use Rattle.std.proofs.lemmas.List.{map-append}
 use Rattle.std.proofs.lemmas.Slice.Eq.{bytes_eq-Decides}
 use Rattle.std.specs.Cmp.Lexicographic.{bytes_decides, nat_list_cmp_total, nat_list_eq_equiv, pointwise, slice_cmp, texts_ties}

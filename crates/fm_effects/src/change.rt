@@ -5,7 +5,7 @@ ghost use Rattle.fm_effects.specs.Owners.{copy_seen, file_with};
 ghost use Rattle.meaning_areas.specs.Finishing.{change_to};
 ghost use Rattle.meaning_settling.specs.Settling.{copy_of, filled, given_back, taken_over};
 
-use crate::owners::{Owners, freed, has_owners, original, taken_owners};
+use crate::owners::{FileOwners, freed, has_owners, original, taken_owners};
 use dl_base::{Copied, File, FileChange, FileRow, Memory, OnUnlink, Options, Owner, Path, Text};
 use std::alloc::Global;
 
@@ -81,7 +81,7 @@ fn given_back(path: &Path, file: &File, unlink: OnUnlink) -> Result<Option<FileC
 fn filled(
     path: &Path,
     file: &File,
-    owners: Owners,
+    owners: FileOwners,
     bytes: &Text,
 ) -> Result<Option<FileChange>, Memory>
     ensures { IfOk result (λ made. made ≡ change_to path.now (Some file.now) (Some (file_with owners bytes.now))) }
@@ -94,7 +94,7 @@ fn filled(
 }
 
 // The change to these owners, where the bytes stay.
-fn with_owners(path: &Path, file: &File, owners: Owners) -> Result<Option<FileChange>, Memory>
+fn with_owners(path: &Path, file: &File, owners: FileOwners) -> Result<Option<FileChange>, Memory>
     ensures { IfOk result (λ made. made ≡ change_to path.now (Some file.now) (Some (file_with owners file.now.bytes))) }
 {
     if has_owners(file, &owners) {
@@ -103,20 +103,20 @@ fn with_owners(path: &Path, file: &File, owners: Owners) -> Result<Option<FileCh
     kept(path, owners)
 }
 
-fn kept(path: &Path, owners: Owners) -> Result<Option<FileChange>, Memory>
+fn kept(path: &Path, owners: FileOwners) -> Result<Option<FileChange>, Memory>
     ensures { IfOk result (λ made. made ≡ Some (FileChange.Kept path.now owners.owner owners.before)) }
 {
     let path = path.copy()?;
-    let Owners { owner, before } = owners;
+    let FileOwners { owner, before } = owners;
     Ok(Some(FileChange::Kept(path, owner, before)))
 }
 
-fn put(path: &Path, owners: Owners, bytes: &Text) -> Result<Option<FileChange>, Memory>
+fn put(path: &Path, owners: FileOwners, bytes: &Text) -> Result<Option<FileChange>, Memory>
     ensures { IfOk result (λ made. made ≡ Some (FileChange.Put (record { path = path.now; file = file_with owners bytes.now }))) }
 {
     let path = path.copy()?;
     let bytes = bytes.copy()?;
-    let Owners { owner, before } = owners;
+    let FileOwners { owner, before } = owners;
     let file = File {
         owner,
         bytes,

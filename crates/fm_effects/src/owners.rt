@@ -12,7 +12,7 @@ const MANAGER: [u8; 4] = *b"dlfm";
 
 /// The owner of a file, and the owner that is saved for it.
 #[derive(Drop)]
-pub struct Owners {
+pub struct FileOwners {
     pub owner: Owner,
     pub before: Option<Owner>,
 }
@@ -28,7 +28,7 @@ pub fn original(file: &File) -> &Owner
 }
 
 /// The owners of a file under a link that is taken: without WRITE PERMISSION BLOCKED or ADMIN those that it had before it was linked.
-pub fn taken_owners(alloc: Global, options: Options, original: &Owner) -> Result<Owners, Memory>
+pub fn taken_owners(alloc: Global, options: Options, original: &Owner) -> Result<FileOwners, Memory>
     ensures { IfOk result (λ made. made ≡ taken_owners options.write options.read original.now) }
 {
     match options.write {
@@ -38,22 +38,22 @@ pub fn taken_owners(alloc: Global, options: Options, original: &Owner) -> Result
 }
 
 /// The owners of a file that no link keeps from its original owner.
-pub fn freed(original: &Owner) -> Result<Owners, Memory>
+pub fn freed(original: &Owner) -> Result<FileOwners, Memory>
     ensures { IfOk result (λ made. made ≡ record { owner = original.now; before = None }) }
 {
-    Ok(Owners {
+    Ok(FileOwners {
         owner: original.copy()?,
         before: None,
     })
 }
 
 // The owners of a file that nobody may write.
-fn owners_under(alloc: Global, read: ReadBy, original: &Owner) -> Result<Owners, Memory>
+fn owners_under(alloc: Global, read: ReadBy, original: &Owner) -> Result<FileOwners, Memory>
     ensures { IfOk result (λ made. made ≡ owners_under read original.now) }
 {
     let owner = link_owner(alloc, read, original)?;
     let before = Some(original.copy()?);
-    Ok(Owners { owner, before })
+    Ok(FileOwners { owner, before })
 }
 
 fn link_owner(alloc: Global, read: ReadBy, original: &Owner) -> Result<Owner, Memory>
@@ -70,7 +70,7 @@ fn link_owner(alloc: Global, read: ReadBy, original: &Owner) -> Result<Owner, Me
 }
 
 /// Whether a file has these owners. It takes no memory.
-pub fn has_owners(file: &File, owners: &Owners) -> bool
+pub fn has_owners(file: &File, owners: &FileOwners) -> bool
     ensures { result ≡ (same_owner file.now.owner owners.now.owner && same_before file.now.before owners.now.before) }
 {
     same_owner(&file.owner, &owners.owner) && same_before(&file.before, &owners.before)

@@ -1,5 +1,5 @@
 // The manager: its three owners, and what it writes into one area.
-ghost use Rattle.std.specs.Prelude.{◌≡◌, ◌≢◌, ◌≤◌, ◌+◌, ◌∷◌, ◌++◌, [], ℕ, None, IfOk, OnOk, OnErr, length};
+ghost use Rattle.std.specs.Prelude.{◌≡◌, ◌≢◌, ◌≤◌, ◌+◌, ◌∷◌, ◌++◌, [], None, OnOk, OnErr, length};
 ghost use Rattle.std.specs.Result.{result_err};
 ghost use Rattle.dl_codec.specs.Files.{files_record};
 ghost use Rattle.dl_codec.specs.declared.archive.ArchiveRecord.TheVariants as archive_records;
@@ -10,9 +10,7 @@ ghost use Rattle.fm_branch.specs.Linked.{reopened};
 ghost use Rattle.fs_files.specs.Store.{IsWriting};
 ghost use Rattle.meaning_areas.specs.Lists.{in_archive, in_links};
 ghost use Rattle.meaning_files.specs.Commands.{changed, command_changes, refusal};
-ghost use Rattle.meaning_settling.specs.Settling.{Moved};
-ghost use Rattle.fm_manager.specs.Managed.{AreOpen, FoldsTo, IsSpelled, IsTakenBy, Manages, ManagesStep, as_writes, command_writes, kept_in};
-ghost use Rattle.fm_manager.specs.Pieces.{AreOf, HaveRoom};
+ghost use Rattle.fm_manager.specs.Managed.{AreOpen, FoldsTo, IsSpelled, IsTakenBy, Manages, ManagesStep, as_writes, command_writes};
 
 use crate::laws::calls_of_the_manager;
 use crate::pieces::Pieces;

@@ -1,3 +1,4 @@
+pub mod Asked
 pub mod Examples
 pub mod Reading
 pub mod Table

@@ -1,7 +1,8 @@
 // The command that a text is.
-ghost use Rattle.std.specs.Prelude.{◌≡◌, ◌≤◌, ◌<◌, ◌+◌, ◌==◌, ◌∷◌, true, length, drop, IfOk, Ok, Err, slice_range};
+ghost use Rattle.std.specs.Prelude.{◌≡◌, ◌≤◌, ◌<◌, ◌+◌, ◌==◌, ◌∷◌, true, false, length, MatchOption, IfOk, Ok, Err, slice_range};
 ghost use Rattle.std.specs.Result.{IfErr};
 ghost use Rattle.fs_command.specs.Words.{words_from, word_at};
+ghost use Rattle.fs_command.specs.Grammar.{names_session};
 ghost use Rattle.fs_command.specs.Commands.{GivesLine, IsReading, IsPlaceIn, IsPlaceOf, command, is_command_path, is_session, create, write, delete, rename, chmod, read, list, asked, behind, source_in};
 
 use crate::line::{BadPlace, CommandFault, FileLine};
@@ -135,9 +136,7 @@ fn read(alloc: Global, user: Name, text: &[u8], at: usize) -> Result<FileLine, C
 fn source_of(alloc: Global, user: Name, word: &[u8]) -> Result<Option<FileLine>, Memory>
     ensures { IfOk result (λ line. line ≡ source_in user word.now) }
 {
-    if let [b'$', name @ ..] = word
-        && is_session(name)
-    {
+    if let Some(name) = session_in(word) {
         return Ok(Some(FileLine::ReadOf(user, session(alloc, name)?)));
     }
     if let Some((path, token)) = read_token(alloc, word)? {
@@ -155,6 +154,19 @@ fn is_session(name: &[u8]) -> bool
     ensures { result ≡ is_session name.now }
 {
     is_name(name) && name.len() <= MOST_ACTOR_NAME_BYTES
+}
+
+// The name in `$NAME`.
+fn session_in(word: &[u8]) -> Option<&[u8]>
+    ensures { MatchOption result (names_session word.now ≡ false)
+        (λ name. (is_session name.now ≡ true) × (word.now ≡ 36 ∷ name.now)) }
+{
+    if let [b'$', name @ ..] = word
+        && is_session(name)
+    {
+        return Some(name);
+    }
+    None
 }
 
 #[tactic(auto, unfolding(crate::specs::Commands::is_session))]

@@ -1,5 +1,5 @@
 // The words of a command's text, one after another.
-ghost use Rattle.std.specs.Prelude.{◌≡◌, ◌≤◌, ◌<◌, ◌+◌, ◌==◌, true, not, [], ◌∷◌, length, drop, MatchResult, IfOk, Ok, Err};
+ghost use Rattle.std.specs.Prelude.{◌≡◌, ◌≤◌, ◌<◌, ◌+◌, ◌==◌, true, not, [], ◌∷◌, length, MatchResult, IfOk, Ok, Err};
 ghost use Rattle.std.specs.List.{prefix_len, slice_range};
 ghost use Rattle.std.specs.Result.{IfErr};
 ghost use Rattle.fs_command.specs.Words.{words_from, word_at};

@@ -1,15 +1,14 @@
 -- One more record of a fold.
-use Rattle.std.proofs.Common.{◌≡◌, ℕ, ◌+◌, ◌<◌, ◌≤◌, List, [], ◌∷◌, ◌++◌, length, get_or, take, drop, Bool, true, false, sym, ap, ◌∙◌, arith, Option, Some, None, is_some, Result, Ok, Err, IsOk, IfOk}
+use Rattle.std.proofs.Common.{◌≡◌, ℕ, ◌+◌, ◌<◌, ◌≤◌, List, [], ◌∷◌, ◌++◌, length, get_or, take, drop, Bool, true, false, sym, ap, ◌∙◌, arith, Option, Some, None, Ok, Err}
 use Rattle.std.proofs.lemmas.List.{take_more, drop_more, take-append-drop}
 use Rattle.std.specs.Bool.{MatchBool}
-use Rattle.std.specs.Option.{ok_or, option_and_then}
-use Rattle.dl_base.specs.declared.file.FileChange.{FileChange}
+use Rattle.std.specs.Option.{ok_or}
 use Rattle.dl_journal.proofs.Records.{size-push}
 use Rattle.dl_journal.specs.Records.{size}
 use Rattle.meaning_areas.proofs.FoldLaws.{folded-err}
 use Rattle.meaning_areas.specs.FilesArea.{files_step, files_of}
 use Rattle.meaning_areas.specs.Folds.{folded}
-use Rattle.meaning_files.specs.Files.{Files, with_change, with_changes}
+use Rattle.meaning_files.specs.Files.{Files}
 
 pub on_no : (b : Bool) (P Q : Type 0) → b ≡ false → MatchBool b P Q → Q
 on_no true P Q is m = absurd cc

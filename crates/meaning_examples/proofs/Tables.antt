@@ -11,7 +11,7 @@ use Rattle.dl_base.specs.declared.value.LinkRow.{LinkRow}
 use Rattle.dl_base.specs.declared.value.Row.{Row}
 use Rattle.dl_base.specs.declared.value.Value.{Value}
 use Rattle.dl_base.specs.declared.value.Value.TheVariants as values
-use Rattle.meaning_tables.specs.First.{first_number, has_key, first_cell}
+use Rattle.meaning_tables.specs.First.{first_number, has_key, has_link}
 use Rattle.meaning_tables.specs.Links.{links, gives, takes}
 use Rattle.meaning_tables.specs.Tables.{Rows, Tables, row_of, with_row, without_row, new_table, with_inserted, table_of, with_table, without_table}
 
@@ -123,12 +123,12 @@ discarded = refl
 discarded_in_vain : without_table (without_table two t) t ≡ without_table two t
 discarded_in_vain = refl
 
--- ---- cells by link: the place of the first table with it, from 0, and the number of its row
+-- ---- rows by link
 
-abbrev with_links : Tables
-with_links = both ((1, linked 1 (link 7 1)) ∷ (2, plain 2) ∷ (3, linked 3 (link 7 2)) ∷ []) ((1, linked 1 (link 7 2)) ∷ (2, linked 2 (link 8 1)) ∷ [])
+abbrev linked_rows : List (ℕ × Row)
+linked_rows = (1, linked 1 (link 7 1)) ∷ (2, plain 2) ∷ (3, linked 3 (link 7 2)) ∷ (4, linked 4 (link 8 1)) ∷ []
 
-found_by_link : map (λ l. first_cell l 0 with_links) (link 7 2 ∷ link 8 1 ∷ link 8 2 ∷ []) ≡ Some (0, 3) ∷ Some (1, 2) ∷ None ∷ []
+found_by_link : map (λ l. first_number (has_link columns l) linked_rows) (link 7 2 ∷ link 8 1 ∷ link 8 2 ∷ []) ≡ Some 3 ∷ Some 4 ∷ None ∷ []
 found_by_link = refl
 
 -- ---- what a copy gives and takes: links differ by either number, and the order is that of tables, rows and columns

@@ -1,5 +1,5 @@
 -- Small files and commands on them: what the definitions make of them.
-use Rattle.std.proofs.Common.{◌≡◌, ℕ, true, false, Bool, List, [], ◌∷◌, length, codes, Some, None, refl, sym, ap, ◌∙◌}
+use Rattle.std.proofs.Common.{◌≡◌, ℕ, true, false, Bool, List, [], ◌∷◌, length, codes, Some, None, refl, sym, ◌∙◌}
 use Rattle.std.specs.Cmp.Lexicographic.{slice_cmp, nat_list_cmp_total}
 use Rattle.std.specs.FinMap as map
 use Rattle.std.specs.Ordering.{nat_cmp}
@@ -16,7 +16,7 @@ use Rattle.dl_base.specs.declared.file.FileRow.{FileRow}
 use Rattle.dl_base.specs.declared.file.FileWhat.{FileWhat}
 use Rattle.dl_base.specs.declared.file.FileWhat.TheVariants as whats
 use Rattle.dl_base.specs.declared.value.LinkNo.{LinkNo}
-use Rattle.meaning_files.specs.Commands.{if_exists, too_many, refusal_of, rows_of, file_command}
+use Rattle.meaning_files.specs.Commands.{if_exists, too_many, refusal_of, file_command}
 use Rattle.meaning_files.specs.Files.{Files, with_owner}
 
 abbrev pub ann : List ℕ

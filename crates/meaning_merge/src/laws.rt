@@ -1,5 +1,5 @@
 // What a merge promises. The functions do nothing: they carry laws.
-ghost use Rattle.std.specs.Prelude.{◌≡◌, ◌≢◌, ℕ, ◌+◌, ◌/◌, ◌^◌, List, [], ◌∷◌, ◌++◌, Bool, true, false, length, Option, Some, None, Ok};
+ghost use Rattle.std.specs.Prelude.{◌≡◌, ◌≢◌, ℕ, ◌+◌, ◌/◌, ◌^◌, List, [], ◌∷◌, ◌++◌, Bool, true, false, length, Some, None, Ok};
 ghost use Rattle.dl_base.specs.declared.column.Column as columns;
 ghost use Rattle.dl_base.specs.declared.statement.Stmt as statements;
 ghost use Rattle.dl_base.specs.declared.value.LinkRow as rows;

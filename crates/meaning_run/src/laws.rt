@@ -1,5 +1,5 @@
 // What runs of scripts are. The functions do nothing: they carry laws.
-ghost use Rattle.std.specs.Prelude.{◌≡◌, ◌+◌, ◌<◌, ◌++◌, ℕ, List, [], ◌∷◌, Some, length};
+ghost use Rattle.std.specs.Prelude.{◌≡◌, ◌+◌, ◌<◌, ◌++◌, ℕ, List, [], Some, length};
 ghost use Rattle.dl_base.specs.declared.step.Step as asked;
 ghost use Rattle.meaning_run.specs.Running.{AreRead, Read, Run, StoresNone, after, next_step, turn, written};
 

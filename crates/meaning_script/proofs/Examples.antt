@@ -1,5 +1,5 @@
 -- Lines and answers: which lines are quiet, what is printed of values, answers and refusals, and what is told of a script.
-use Rattle.std.proofs.Common.{◌≡◌, ◌+◌, ◌-◌, ◌*◌, ◌^◌, map, ℕ, Bool, true, false, List, [], ◌∷◌, ◌++◌, codes, None, replicate, refl, ◌∙◌, pos, negsuc}
+use Rattle.std.proofs.Common.{◌≡◌, ◌+◌, ◌-◌, ◌*◌, ◌^◌, map, ℕ, Bool, true, false, List, [], ◌∷◌, ◌++◌, codes, None, replicate, refl, pos, negsuc}
 use Rattle.std.specs.Fmt.{digits}
 use Rattle.dl_base.specs.Name.{name_test}
 use Rattle.dl_base.specs.declared.answer.Answer.TheVariants as answers

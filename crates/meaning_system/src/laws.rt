@@ -1,5 +1,5 @@
 // What the machine's steps do to its stored part, and how lists go with it. The functions do nothing: they carry laws.
-ghost use Rattle.std.specs.Prelude.{◌≡◌, ◌≢◌, ℕ, ◌+◌, ◌*◌, ◌^◌, ◌<◌, Bool, true, false, List, [], ◌∷◌, ◌++◌, length, map, Option, Some, None};
+ghost use Rattle.std.specs.Prelude.{◌≡◌, ◌≢◌, ℕ, ◌+◌, ◌*◌, ◌^◌, ◌<◌, Bool, true, false, List, [], ◌∷◌, ◌++◌, length, map, Some, None};
 ghost use Rattle.std.specs.FinMap as maps;
 ghost use Rattle.dl_base.specs.declared.file.File as stored_files;
 ghost use Rattle.dl_base.specs.declared.file.FileCmd as cmds;

@@ -1,5 +1,5 @@
 // What is told of the steps of actors that run side by side.
-ghost use Rattle.std.specs.Prelude.{◌≡◌, ◌++◌, IfOk};
+ghost use Rattle.std.specs.Prelude.{◌≡◌, IfOk};
 ghost use Rattle.meaning_script.specs.Printed as meant;
 
 use crate::words::{put_with, put_with_number};

@@ -1,8 +1,7 @@
 // The order that the text behind a `!` is.
-ghost use Rattle.std.specs.Prelude.{◌≡◌, ◌≤◌, ◌<◌, ◌+◌, ◌^◌, ◌∷◌, length, MatchOption, MatchResult, IfOk, Ok, Err};
-ghost use Rattle.std.specs.List.{slice_range};
+ghost use Rattle.std.specs.Prelude.{◌≡◌, ◌≤◌, ◌<◌, ◌+◌, length, MatchResult, IfOk, Ok, Err};
 ghost use Rattle.std.specs.Result.{IfErr};
-ghost use Rattle.fs_command.specs.Words.{words_from, word_at};
+ghost use Rattle.fs_command.specs.Words.{words_from};
 ghost use Rattle.fs_command.specs.Commands.{IsReading, IsPlaceOf, word};
 ghost use Rattle.meaning_script.specs.Orders.{order, number, tick, restore, crash, kept_in, crash_in, target};
 

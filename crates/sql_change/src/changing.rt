@@ -1,7 +1,7 @@
 // A statement as a whole: the new table is built beside the old one, and put in its place as the last step, which takes no memory.
 // Where the condition of a DELETE asks for a key, the row that goes is taken out of the table as the last step, and want of memory
 // leaves the tables as they were.
-ghost use Rattle.std.specs.Prelude.{◌≡◌, ◌≢◌, ◌≤◌, ◌==◌, IfOk, IfErr, OnErr, OnOk, Ok, Err, Some, [], false, true, ℕ, suc, length, map};
+ghost use Rattle.std.specs.Prelude.{◌≡◌, ◌≢◌, ◌≤◌, ◌==◌, IfOk, IfErr, OnErr, OnOk, Ok, Err, Some, [], false, true, ℕ, length, map};
 ghost use Rattle.std.specs.Cmp.Lexicographic.{pointwise};
 ghost use Rattle.std.specs.List.{IsDistinct};
 ghost use Rattle.dl_base.specs.Limits.{link_numbers};

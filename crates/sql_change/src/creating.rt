@@ -1,5 +1,5 @@
 // The columns that CREATE TABLE makes.
-ghost use Rattle.std.specs.Prelude.{◌≡◌, ◌≢◌, ◌||◌, [], Err, false, bytes_eq, nat_lt, IfOk};
+ghost use Rattle.std.specs.Prelude.{◌≡◌, ◌≢◌, ◌||◌, [], Err, false, true, is_err, bytes_eq, nat_lt, IfOk, OnErr};
 ghost use Rattle.std.specs.List.{list_any};
 ghost use Rattle.meaning_sql.specs.Faults.{Computes};
 ghost use Rattle.meaning_statements.specs.Creating as meant;
@@ -78,7 +78,8 @@ fn stands(columns: &[Column], name: &Name) -> bool
 }
 
 fn kind_made(name: &Name, def: KindDef) -> Result<Kind, SqlFault>
-    ensures { Computes (λ k. k) result (meant.kind_made name.now def) }
+    ensures made { Computes (λ k. k) result (meant.kind_made name.now def) }
+    ensures accepted { OnErr result (is_err (meant.kind_made name.now def) ≡ true) }
 {
     match def {
         KindDef::Integer => Ok(Kind::Int),
@@ -104,7 +105,8 @@ fn kind_made(name: &Name, def: KindDef) -> Result<Kind, SqlFault>
 
 // A length from 1 to 4,000 bytes.
 fn text_kind(name: &Name, length: i64) -> Result<Kind, SqlFault>
-    ensures { Computes (λ k. k) result (meant.text_kind name.now length) }
+    ensures made { Computes (λ k. k) result (meant.text_kind name.now length) }
+    ensures accepted { OnErr result (is_err (meant.text_kind name.now length) ≡ true) }
 {
     if 1 <= length && length <= MOST_VARCHAR_BYTES as i64 {
         Ok(Kind::Text(length as u32))

@@ -1,5 +1,5 @@
 // INSERT: the rows of its tuples, and the table with them.
-ghost use Rattle.std.specs.Prelude.{◌≡◌, ◌+◌, ◌≤◌, All, IfOk, OnOk, Some, is_some, length, slice_get, suc, true};
+ghost use Rattle.std.specs.Prelude.{◌≡◌, ◌+◌, ◌≤◌, All, IfOk, OnOk, Some, is_some, length, slice_get, true};
 ghost use Rattle.dl_base.specs.Limits.{link_numbers, most_rows, row_numbers};
 ghost use Rattle.dl_base.specs.declared.value.Value.{Value as ValueOf};
 ghost use Rattle.meaning_sql.specs.Faults.{Computes};

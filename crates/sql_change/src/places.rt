@@ -1,5 +1,5 @@
 // The columns that a statement names, and the types of what is put into them.
-ghost use Rattle.std.specs.Prelude.{◌≡◌, ◌==◌, ◌≤◌, [], IfOk, length, take, map, bytes_eq};
+ghost use Rattle.std.specs.Prelude.{◌≡◌, ◌==◌, ◌≤◌, [], is_err, true, IfOk, OnErr, length, take, map, bytes_eq};
 ghost use Rattle.std.specs.List.{list_any};
 ghost use Rattle.dl_base.specs.declared.sql_fault.SqlFault.TheVariants as faults;
 ghost use Rattle.meaning_sql.specs.Faults.{Computes, try_map, ensure};
@@ -35,7 +35,8 @@ fn named(name: &Name, column: &Column) -> Result<(Name, Column), Memory>
 
 // The place from 0 of the first column of a name.
 fn place_named(name: &Name, columns: &List<Column>) -> Result<usize, SqlFault>
-    ensures { Computes (λ i. i) result (meant.place_named name.now 0 columns.now) }
+    ensures place { Computes (λ i. i) result (meant.place_named name.now 0 columns.now) }
+    ensures accepted { OnErr result (is_err (meant.place_named name.now 0 columns.now) ≡ true) }
 {
     for (i, column) in columns.as_slice().iter().enumerate() {
         if name.bytes() == column.name.bytes() {

@@ -1,5 +1,5 @@
 -- What each statement changes stays in order: names differ, and row numbers rise.
-use Rattle.std.proofs.Common.{◌≡◌, ◌+◌, ◌++◌, ◌==◌, ◌&&◌, ◌^◌, ℕ, true, false, not, List, [], map, length, Option, is_none, Ok, nat_le, nat_lt, subst, arith}
+use Rattle.std.proofs.Common.{◌≡◌, ◌+◌, ◌++◌, ◌==◌, ℕ, true, false, not, List, [], map, length, Option, is_none, Ok, nat_le, nat_lt, subst, arith}
 use Rattle.dl_base.specs.Limits.{most_columns, most_tables}
 use Rattle.dl_base.specs.declared.answer.Limit.TheVariants as limits
 use Rattle.dl_base.specs.declared.sql_fault.SqlFault.TheVariants as faults

@@ -1,5 +1,5 @@
 // GROUP BY: whether a query groups, and by which places.
-ghost use Rattle.std.specs.Prelude.{◌≡◌, IfOk};
+ghost use Rattle.std.specs.Prelude.{◌≡◌, is_err, true, IfOk, OnErr};
 ghost use Rattle.std.specs.List.{list_any};
 ghost use Rattle.std.specs.Option.{option_to_list};
 ghost use Rattle.meaning_sql.specs.Columns as columns_meant;
@@ -93,7 +93,8 @@ pub(crate) fn group_places(
 }
 
 fn group_place(columns: &Columns, r: &Ref) -> Result<usize, SqlFault>
-    ensures { Computes (λ p. p) result (meant.group_place columns.now r.now) }
+    ensures place { Computes (λ p. p) result (meant.group_place columns.now r.now) }
+    ensures accepted { OnErr result (is_err (meant.group_place columns.now r.now) ≡ true) }
 {
     let place = place_of(columns, r)?;
     if is_key(type_at(columns, place)) {

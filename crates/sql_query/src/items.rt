@@ -1,5 +1,5 @@
 // What a query shows: the columns in order, or its items.
-ghost use Rattle.std.specs.Prelude.{◌≡◌, ◌++◌, IfOk, OnOk, Ok, map};
+ghost use Rattle.std.specs.Prelude.{◌≡◌, ◌++◌, is_err, true, IfOk, OnErr, OnOk, Ok, map};
 ghost use Rattle.meaning_sql.specs.Faults.{Computes, typed, try_map};
 ghost use Rattle.meaning_sql.specs.Types as types_meant;
 ghost use Rattle.meaning_statements.specs.Selecting as meant;
@@ -72,7 +72,8 @@ pub(crate) fn item_type(
     item: &Item,
     scope: &AggregateScope,
 ) -> Result<SqlType, SqlFault>
-    ensures { Computes (λ t. t) result (shown.item_type columns.now scope.now item.now) }
+    ensures of_type { Computes (λ t. t) result (shown.item_type columns.now scope.now item.now) }
+    ensures accepted { OnErr result (is_err (shown.item_type columns.now scope.now item.now) ≡ true) }
 {
     let t = check_in(&item.expr, columns, scope)?;
     if matches!(t, SqlType::Truth) {

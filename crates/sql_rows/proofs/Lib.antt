@@ -1,6 +1,7 @@
 pub mod Alone
 pub mod Beside
 pub mod Leaving
+pub mod Making
 pub mod Placing
 pub mod Rights
 pub mod Rising

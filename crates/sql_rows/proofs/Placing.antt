@@ -25,3 +25,6 @@ taken_out first below number (r ∷ rs) rest row rise =
 -- a table of which only the rows are others
 pub still_of : (t made after : Rows) (rows : List (ℕ × Row)) → made ≡ record t { rows = made.rows } → after ≡ record made { rows = rows } → after ≡ record t { rows = after.rows }
 still_of t made after rows of set = set ∙ ap (λ (x : Rows). record x { rows = rows }) of ∙ ap (λ (rs : List (ℕ × Row)). record t { rows = rs }) (sym (ap (λ (x : Rows). x.rows) set))
+
+pub rows_alone : (t after : Rows) (rows : List (ℕ × Row)) → after ≡ record t { rows = rows } → after ≡ record t { rows = after.rows }
+rows_alone t after rows set = set ∙ ap (λ (rs : List (ℕ × Row)). record t { rows = rs }) (sym (ap (λ (x : Rows). x.rows) set))

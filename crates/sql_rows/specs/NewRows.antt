@@ -1,4 +1,4 @@
--- The rows of an INSERT before they have numbers.
+-- Steps of a proof, which nobody need read: `tuple_rows`, once its rows have numbers (`counted`), equals `inserted_rows` of the meaning of statements (`Changing`).
 use Rattle.std.specs.Prelude.{ℕ, ◌+◌, List, [], ◌∷◌, Result, Ok}
 use Rattle.dl_base.specs.declared.column.Column.{Column}
 use Rattle.dl_base.specs.declared.sql_fault.SqlFault.{SqlFault}

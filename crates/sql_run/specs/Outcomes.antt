@@ -1,4 +1,4 @@
--- What a statement answers, and the tables after it.
+-- What a statement answers, and the tables after it, as the code tells it: the machine's `evaluated` (`meaning_system`, `Sql`) is this one with its answer (`an_evaluation_is_the_machines`).
 use Rattle.std.specs.Prelude.{ℕ, List, [], Result, Ok, Err}
 use Rattle.dl_base.specs.declared.answer.Answer.{Answer}
 use Rattle.dl_base.specs.declared.answer.Answer.TheVariants as answers
@@ -17,7 +17,7 @@ use Rattle.sql_run.specs.declared.evaluating.Outcome.{Outcome}
 use Rattle.sql_run.specs.declared.evaluating.Outcome.TheVariants as outcomes
 
 -- an outcome, the tables after the statement, and the next link number
-pub record Evaluated : Type 0 where
+pub record Evaluation : Type 0 where
   pub outcome : Outcome
   pub tables : Tables
   pub next : ℕ
@@ -40,12 +40,12 @@ selected (Ok rows) = outcomes.Rows (record { rows = rows })
 selected (Err fault) = outcomes.Refused fault
 
 -- after a change, whose outcome tells a number of rows or none; after a refusal all is as before
-abbrev pub after_change : Tables → ℕ → (Result ℕ SqlFault → Outcome) → Result Changed SqlFault → Evaluated
+abbrev pub after_change : Tables → ℕ → (Result ℕ SqlFault → Outcome) → Result Changed SqlFault → Evaluation
 after_change tables k tell (Ok made) = record { outcome = tell (Ok made.count); tables = made.tables; next = made.next }
 after_change tables k tell (Err fault) = record { outcome = tell (Err fault); tables = tables; next = k }
 
 -- a statement over tables, with the next link number k
-abbrev pub evaluated : Tables → Stmt → Context → ℕ → Evaluated
+abbrev pub evaluated : Tables → Stmt → Context → ℕ → Evaluation
 evaluated tables (statements.Select query) context k = record { outcome = selected (select tables query context); tables = tables; next = k }
 evaluated tables (statements.Insert name names tuples) context k = after_change tables k counted (change tables (statements.Insert name names tuples) context k)
 evaluated tables (statements.Update name sets filter) context k = after_change tables k counted (change tables (statements.Update name sets filter) context k)

@@ -1,5 +1,5 @@
 // A statement of any kind, and what it answers.
-ghost use Rattle.std.specs.Prelude.{◌≡◌, ◌≢◌, ◌≤◌, IfOk, OnErr, Err, [], false, length, suc};
+ghost use Rattle.std.specs.Prelude.{◌≡◌, ◌≢◌, ◌≤◌, IfOk, OnErr, Err, [], false, length};
 ghost use Rattle.dl_base.specs.Limits.{link_numbers};
 ghost use Rattle.dl_base.specs.declared.sql_fault.SqlFault.TheVariants as faults;
 ghost use Rattle.meaning_statements.specs.Changing.{change};
@@ -7,7 +7,7 @@ ghost use Rattle.meaning_tables.specs.Fits.{RowsFit};
 ghost use Rattle.sql_change.specs.Touched.{changes_rows};
 ghost use Rattle.sql_rows.specs.Beside.{AgreeBeside};
 ghost use Rattle.sql_run.specs.declared.evaluating.Outcome.TheVariants as outcomes;
-ghost use Rattle.sql_run.specs.Outcomes.{Evaluated, after_change, evaluated, answer_of, count_of, counted, done, rows_answered, rows_changed, touched_of};
+ghost use Rattle.sql_run.specs.Outcomes.{after_change, evaluated, answer_of, count_of, counted, done, rows_answered, rows_changed, touched_of};
 
 use dl_base::{Answer, Grid, List, Memory, Refusal, SqlFault, Stmt};
 use meaning_sql::Context;

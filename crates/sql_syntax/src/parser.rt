@@ -1,5 +1,5 @@
 // Statements from text.
-ghost use Rattle.std.specs.Prelude.{◌≡◌, Result, ◌+◌, ◌≤◌, IfOk, length, slice_get};
+ghost use Rattle.std.specs.Prelude.{◌≡◌, Result, ◌+◌, IfOk, length, slice_get};
 ghost use Rattle.dl_base.specs.declared.statement.Stmt.{Stmt as Tree};
 ghost use Rattle.sql_grammar.specs.Proper.{terminal, reserved_symbol, sign_symbol};
 ghost use Rattle.sql_grammar.specs.Readers.{whole_at};

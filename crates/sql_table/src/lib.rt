@@ -10,7 +10,7 @@ mod roomy;
 mod table;
 mod tables;
 
-pub use link_rows::{gives_takes, links};
+pub use link_rows::{gives_takes, links, put_lacking_of, put_row_lacking};
 pub use roomy::RoomyTables;
 pub use table::Table;
 pub use tables::Tables;

@@ -5,7 +5,7 @@ ghost use Rattle.meaning_tables.specs.Links as meant;
 ghost use Rattle.sql_table.specs.Lacking.{CoversLacking, lacking_at};
 
 use crate::{Table, Tables};
-use dl_base::{Column, Copied, Kind, LinkNo, LinkRow, List, Memory, Row, Value};
+use dl_base::{Column, Copied, Kind, LinkNo, LinkRow, List, Memory, Options, Path, Row, Value};
 use dl_pages::{Pages, with_member};
 use std::alloc::Global;
 
@@ -63,8 +63,10 @@ fn put_lacking(made: &mut List<LinkRow>, table: &Table, others: &Tables) -> Resu
     put_lacking_of(made, table, &numbers, others)
 }
 
-// Puts the links of the rows of some numbers whose numbers others lack.
-fn put_lacking_of(
+/// Puts the links of the rows of some numbers whose numbers others lack, in the order of these numbers; a number of no row puts none. Each row
+/// costs a look for it, and each of its links a look for its number in each of the others. The error is want of memory; then some of the
+/// links may have been put.
+pub fn put_lacking_of(
     made: &mut List<LinkRow>,
     table: &Table,
     numbers: &Pages<u64>,
@@ -107,32 +109,73 @@ fn put_lacking_at(
     ensures { OnOk result (made.new ≡ made.old ++ lacking_at (meant.links others.now) table.now number) }
 {
     match table.row(number) {
-        Some(row) => {
-            let mut of_row = List::empty(made.allocator());
-            put_row_links(&mut of_row, table.columns(), row)?;
-            put_lacked(made, &of_row, others)
-        }
+        Some(row) => put_row_lacking(made, table.columns(), row, others),
         None => Ok(()),
     }
 }
 
-// Puts those of some links whose numbers others lack.
-fn put_lacked(made: &mut List<LinkRow>, some: &List<LinkRow>, others: &Tables) -> Result<(), Memory>
-    ensures { OnOk result (made.new ≡ made.old ++ meant.lacking some.now (meant.links others.now)) }
+/// Puts the links of a row, by its columns, whose numbers others lack, in the order of `links`. Each link of the row costs a look for its
+/// number in each of the others. The error is want of memory; then some of the links may have been put.
+pub fn put_row_lacking(
+    made: &mut List<LinkRow>,
+    columns: &List<Column>,
+    row: &Row,
+    others: &Tables,
+) -> Result<(), Memory>
+    ensures { OnOk result (made.new ≡ made.old ++ meant.lacking (meant.row_links columns.now row.now.values) (meant.links others.now)) }
 {
-    for link in some.as_slice() {
-        if has_number(others, link.link) {
-            continue;
+    let values = row.values.as_slice();
+    for (i, column) in columns.as_slice().iter().enumerate() {
+        if values.len() <= i {
+            return Ok(());
         }
-        put_copy(made, link)?;
+        put_cell_lacking(made, column.kind, &values[i], others)?;
     }
     Ok(())
 }
 
-fn put_copy(made: &mut List<LinkRow>, link: &LinkRow) -> Result<(), Memory>
-    ensures { OnOk result (made.new ≡ made.old ++ link.now ∷ []) }
+fn put_cell_lacking(
+    made: &mut List<LinkRow>,
+    kind: Kind,
+    value: &Value,
+    others: &Tables,
+) -> Result<(), Memory>
+    ensures { OnOk result (made.new ≡ made.old ++ meant.lacking (meant.cell_links kind value.now) (meant.links others.now)) }
 {
-    made.push(link.copy()?)?;
+    match kind {
+        Kind::Linked(options) => match value {
+            Value::Link(datalink) => match datalink.link {
+                Some(link) => put_if_lacking(made, link, &datalink.path, options, others),
+                None => Ok(()),
+            },
+            Value::Null => Ok(()),
+            Value::Int(_) => Ok(()),
+            Value::Text(_) => Ok(()),
+        },
+        Kind::Int => Ok(()),
+        Kind::Text(_) => Ok(()),
+        Kind::Free => Ok(()),
+    }
+}
+
+// Puts a link, where others lack its number.
+fn put_if_lacking(
+    made: &mut List<LinkRow>,
+    link: LinkNo,
+    path: &Path,
+    options: Options,
+    others: &Tables,
+) -> Result<(), Memory>
+    ensures { OnOk result (made.new ≡ made.old ++ meant.lacking (record { link = link; path = path.now; options = options } ∷ []) (meant.links others.now)) }
+{
+    if has_number(others, link) {
+        return Ok(());
+    }
+    made.push(LinkRow {
+        link,
+        path: path.copy()?,
+        options,
+    })?;
     Ok(())
 }
 

@@ -1,15 +1,14 @@
 // Tables by name.
-ghost use Rattle.std.specs.Prelude.{◌≡◌, ◌↔◌, IsTrue, ◌+◌, ◌++◌, ◌∷◌, [], None, Some, IfOk, OnOk, OnErr, length, map, drop, slice_get, is_some, MatchOption, ◌==◌, ◌<◌, ◌^◌};
+ghost use Rattle.std.specs.Prelude.{◌≡◌, ◌↔◌, IsTrue, ◌+◌, ◌++◌, ◌∷◌, [], None, Some, IfOk, OnOk, OnErr, length, map, drop, slice_get, is_some, MatchOption, ◌==◌};
 ghost use Rattle.std.specs.Borrow.{sem};
 ghost use Rattle.std.specs.Cmp.Lexicographic.{pointwise};
 ghost use Rattle.std.specs.List.{IsDistinct};
 ghost use Rattle.std.specs.Option.{option_copied, option_copied_mut, option_map};
-ghost use Rattle.meaning_tables.specs.First.{first_cell};
 ghost use Rattle.meaning_tables.specs.Tables.{Rows, table_of, with_table, without_table, without_row, new_table};
 ghost use Rattle.sql_table.specs.Lending.{LendsTable};
 
 use crate::{RoomyTables, Table};
-use dl_base::{Column, Copied, LinkNo, List, Memory, Name, Same};
+use dl_base::{Column, Copied, List, Memory, Name, Same};
 use std::alloc::Global;
 use std::marker::Model;
 use std::mem;
@@ -134,26 +133,6 @@ impl Tables {
             }
         }
         Ok(made)
-    }
-
-    /// The place of the table, from 0 in order of creation, and the row number of the first cell with a link number, in the order
-    /// of `links`; None where no cell has it. It takes no memory. The cost grows with the number of tables, and with the logarithm
-    /// of the number of links of each.
-    pub fn by_link(&self, link: LinkNo) -> Option<(u32, u64)>
-        requires { length self.now < 2 ^ 32 }
-        ensures { result ≡ first_cell link 0 self.now }
-    {
-        for i in 0..self.len() {
-            match self.at(i) {
-                Some((_, table)) => {
-                    if let Some(number) = table.first_link(link) {
-                        return Some((i as u32, number));
-                    }
-                }
-                None => return None,
-            }
-        }
-        None
     }
 
     // The same with room for more, and back. Neither takes memory.

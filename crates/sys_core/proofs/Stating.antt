@@ -172,7 +172,7 @@ module _ (laws : Laws) (first : ℕ) (s : State) (w : Engine) (is : IsOf first w
   abbrev pub asked : Step
   asked = steps.Statement session stmt
 
-  abbrev pub e : run.Evaluated
+  abbrev pub e : run.Evaluation
   e = run.evaluated t.copy stmt (context_of s tx) t.next
 
   abbrev pub answer : Answer

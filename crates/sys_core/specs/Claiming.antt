@@ -6,7 +6,7 @@ use Rattle.std.specs.FinMap as maps
 use Rattle.std.specs.Map.{lookup}
 use Rattle.std.specs.Option.{option_map}
 use Rattle.std.specs.Ordering.{nat_cmp}
-use Rattle.db_txn.specs.Transaction.{Kept, Transaction}
+use Rattle.db_txn.specs.Transaction.{LastEvaluation, Transaction}
 use Rattle.dl_base.specs.declared.answer.Answer.{Answer}
 use Rattle.dl_base.specs.declared.answer.Answer.TheVariants as answers
 use Rattle.dl_base.specs.declared.answer.ClaimRefusal.TheVariants as denials
@@ -46,11 +46,11 @@ leaves_tables (outcomes.Refused fault) = true
 
 -- whether the last evaluation did, and what is answered of it; Done where none is kept
 
-abbrev pub left_tables : Option Kept → Bool
+abbrev pub left_tables : Option LastEvaluation → Bool
 left_tables None = false
 left_tables (Some k) = leaves_tables k.outcome
 
-abbrev pub told_of : Option Kept → Answer
+abbrev pub told_of : Option LastEvaluation → Answer
 told_of None = answers.Done
 told_of (Some k) = answer_of k.outcome
 

@@ -6,7 +6,7 @@ ghost use Rattle.db_txn.specs.Transaction.{vacant};
 ghost use Rattle.dl_base.specs.Limits.{most_actors};
 ghost use Rattle.dl_base.specs.Name.{IsName};
 ghost use Rattle.meaning_run.specs.Running as running;
-ghost use Rattle.meaning_script.specs.Actors.{actor_of, is_extra, is_user_mark, session_number, sessions, with_actor};
+ghost use Rattle.meaning_script.specs.Actors.{actor_of, is_extra, is_user_mark, session_number, sessions};
 ghost use Rattle.sys_run.specs.Running.{AreOf};
 ghost use Rattle.sys_run.specs.Sessions.{is_seated};
 

@@ -1,5 +1,5 @@
 -- A commit of nothing, behind no commits, and the end of its branch.
-use Rattle.std.proofs.Common.{◌≡◌, ℕ, ◌+◌, ◌*◌, ◌/◌, ◌^◌, ◌==◌, true, false, not, cond, List, [], ◌∷◌, Some, None, refl, sym, ap, subst, ◌∙◌, arith}
+use Rattle.std.proofs.Common.{◌≡◌, ℕ, ◌+◌, ◌*◌, ◌/◌, ◌^◌, true, false, not, cond, List, [], Some, None, refl, sym, ap, subst, ◌∙◌, arith}
 use Rattle.std.proofs.lemmas.Bool.{eq-eqb}
 use Rattle.meaning_areas.specs.Commits.{Commit, Commits, commit_to, ends_on, has_number, with_commit, with_ended}
 use Rattle.db_changes.specs.Made.{Making}

@@ -1,4 +1,4 @@
-use Rattle.std.proofs.Common.{◌+◌, [], ap, arith, sym, ◌∙◌}
+use Rattle.std.proofs.Common.{◌+◌, [], arith, sym, ◌∙◌}
 use Rattle.compare_files.proofs.OfPast.{past-none}
 use Rattle.compare_files.proofs.backups.advance.Goals as goal
 

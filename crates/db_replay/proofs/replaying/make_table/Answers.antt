@@ -1,12 +1,10 @@
-use Rattle.std.proofs.Common.{◌≡◌, ◌++◌, ◌∷◌, [], ℕ, Bool, true, false, List, None, is_none, is_some, sym, ap, ◌∙◌, rules, arith}
+use Rattle.std.proofs.Common.{◌≡◌, ◌++◌, ◌∷◌, [], ℕ, Bool, true, false, List, None, is_none, is_some, sym, ap, ◌∙◌, rules}
 use Rattle.std.specs.Bool.{then_some}
 use Rattle.dl_base.specs.declared.column.Column.{Column}
-use Rattle.dl_codec.specs.declared.rows.TableChange.{TableChange}
 use Rattle.dl_codec.specs.declared.rows.TableChange.TheVariants as changes
 use Rattle.meaning_areas.specs.Commits.{columns_stand, with_table_change}
 use Rattle.meaning_tables.specs.Tables.{Tables, new_table, table_of, with_table}
 use Rattle.db_replay.proofs.Changing.{new_as_kept, put-last}
-use Rattle.std.proofs.lemmas.Grind.{common_steps}
 use Rattle.db_replay.proofs.replaying.make_table.Goals as goal
 
 pub returns-in-Ok-Some-clause-exact : goal.returns-in-Ok-Some-clause-exact

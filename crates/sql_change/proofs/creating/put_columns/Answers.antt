@@ -48,7 +48,7 @@ returns-in-Err c memory =
     let new : list_any (λ (x : Column). bytes_eq d.name x.name) made ≡ false = search rules in
     let at = left c.as_slice-def-items.result.now c.args.defs.now c.loop-def.def-index d c.as_slice-def-items.ensures c.loop-def-test.true c.def-item.is in
     sym c.loop-def.invariant ∙ ap (λ (ds : List ColumnDef). made_of made c.loop-def.keyed ds) at
-    ∙ bad_kind made c.loop-def.keyed d (drop (c.loop-def.def-index + 1) c.args.defs.now) c.in-Err.fault new (c.in-Err.ensures memory)
+    ∙ bad_kind made c.loop-def.keyed d (drop (c.loop-def.def-index + 1) c.args.defs.now) c.in-Err.fault new (c.in-Err.ensures.made memory)
 
 pub returns : goal.returns
 returns c = grind (arith, common_steps, any_named)

@@ -8,4 +8,4 @@ loop-key-preserved c =
     let a = c.args in
     let f = key_found a.columns.now a.items.now a.scope.now in
     turn_at f a.order.now c.loop-key.key-index c.key-item.result c.loop-key.made (try_map f a.order.now) c.loop-key-test.true c.key-item.is c.loop-key.invariant
-    c.in_ok-key_of.field-0 c.in_ok-key_of.ensures c.push.new.self c.in_ok-push.ensures.ok
+    c.in_ok-key_of.field-0 c.in_ok-key_of.ensures.key c.push.new.self c.in_ok-push.ensures.ok

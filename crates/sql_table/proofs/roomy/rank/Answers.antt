@@ -1,4 +1,4 @@
-use Rattle.std.proofs.Common.{◌≡◌, ◌+◌, ◌≤◌, ◌<◌, ◌-◌, ◌/◌, ℕ, true, false, length, get_or, arith}
+use Rattle.std.proofs.Common.{◌≡◌, ◌+◌, ◌<◌, ◌-◌, ◌/◌, true, false, get_or, arith}
 use Rattle.sql_table.specs.Roomy.{less, named}
 use Rattle.sql_table.proofs.Ordered.{upto, down, tells}
 use Rattle.sql_table.proofs.roomy.rank.Goals as goal

@@ -1,7 +1,7 @@
 use Rattle.std.proofs.Common.{◌≡◌, ◌++◌, drop, map}
 use Rattle.meaning_merge.specs.Merging.{new_by}
 use Rattle.meaning_merge.specs.Restoring.{new_in}
-use Rattle.bk_restore.specs.Handles.{new_handle}
+use Rattle.db_changes.specs.Handles.{new_handle}
 use Rattle.bk_restore.proofs.changes.Making.put_new.Given as goal
 
 abbrev pub invariant-loop-i : goal.invariant-loop-i

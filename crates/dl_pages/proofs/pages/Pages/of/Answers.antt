@@ -1,9 +1,12 @@
-use Rattle.std.proofs.Common.{◌≡◌, ◌++◌, ◌∙◌, sym, arith}
+use Rattle.std.proofs.Common.{◌≡◌, ◌++◌, ◌∙◌, sym, ap, arith}
 use Rattle.std.proofs.lemmas.List.{append-nil}
 use Rattle.dl_pages.specs.Listing.{flatten}
 use Rattle.dl_pages.proofs.Gathering.{item_taken, row_ends, row_put}
 use Rattle.dl_pages.proofs.pages.Pages.of.Goals as goal
 use Rattle.dl_pages.proofs.pages.Pages.of.Goals.{then-len-eq-MOST_ITEMS+in_ok-of_row+in_ok-push+in_ok-row-2, else-len-eq-MOST_ITEMS}
+
+pub loop-item-init : goal.loop-item-init
+loop-item-init g c = ap (λ l. flatten l ++ (c.in_ok-row.row.items ++ c.into_iter-item-iterator.result.rest.items)) c.new-parts.ensures.items ∙ ap (λ l. l ++ c.into_iter-item-iterator.result.rest.items) c.in_ok-row.ensures ∙ c.into_iter-item-iterator.ensures.into_iter_gives.0 ∙ c.into_vec-item-items.ensures
 
 pub loop-item-preserved : goal.loop-item-preserved
 loop-item-preserved g c =

@@ -3,8 +3,17 @@ use Rattle.std.specs.List.{slice_get}
 use Rattle.std.specs.Option.{option_copied}
 use Rattle.dl_pages.specs.Listing.{flatten}
 use Rattle.dl_pages.specs.Points.{IsPartitioned, IsPartitionPoint}
-use Rattle.dl_pages.proofs.Turns.{len_three, filled_at, item_within, item_past, point_at}
+use Rattle.dl_pages.proofs.Turns.{some_parts, below_at, len_three, filled_at, item_within, item_past, point_at}
 use Rattle.dl_pages.proofs.tree.Part.+first_failing.Goals as goal
+
+pub entry-requires-clause-some : goal.entry-requires-clause-some
+entry-requires-clause-some g t c = some_parts c.parts-parts.result.now (omega (arith, ap length c.parts-parts.ensures.items, ap length c.in-Some.ensures.0, c.if-self-eq0.false, c.self.invariant.0, ap (λ v. length v.0) c.self.view_is))
+
+pub first_failing-within-requires : goal.first_failing-within-requires
+first_failing-within-requires g t c κs lives = (omega (arith, below_at c.in-Some.page.now.1 c.entry.result c.parts-parts.result.now c.in-Some-split_first.behind.now c.in-Some-split_first.part.now (sym c.split_at.ensures.back ∙ c.in-Some-split_first.ensures.cases.0) c.parts-parts.ensures.below, c.in-Some.ensures.1, c.decreases), (lives.0, (lives.1, c.requires)))
+
+pub returns-in-None-clause-item : goal.returns-in-None-clause-item
+returns-in-None-clause-item g t c = c.first_failing_of.ensures.item ∙ ap (λ l. slice_get l c.first_failing_of.result.0) c.row.ensures
 
 pub count-requires : goal.count-requires
 count-requires g t c =
