@@ -7,13 +7,14 @@ was acknowledged has to be there. Ends with `N passed, M failed`, and with statu
 The file system is ext4 over a loop device, whose disk is in the memory of this script (by FUSE), so that one write of it can fail. Behind a
 sync that failed Linux reads the byte that was to be written, and counts it as written; the disk has the old one. The same is done
 with a run whose renewals of gates are left out, by strace: there the acknowledged file has to be gone, or else nothing is shown. It asks for root,
-/dev/fuse, losetup, mkfs.ext4 and strace, and says so where one can't be had.
+/dev/fuse, mkfs.ext4, mount and strace, and says so where one can't be had.
 """
 import ctypes
 import errno
 import mmap
 import os
 import shutil
+import signal
 import struct
 import subprocess
 import sys
@@ -103,11 +104,9 @@ def called(*words):
 
 
 def mounted(image, at):
-    """Mounts the file system that a file has; the loop device."""
+    """Mounts the file system that a file has. The loop device goes away with the mount."""
     os.makedirs(at)
-    loop = called("losetup", "--show", "-f", image)
-    called("mount", "-o", "noatime", loop, at)
-    return loop
+    called("mount", "-o", "loop,noatime", image, at)
 
 
 def run(folder, text, before=()):
@@ -116,7 +115,7 @@ def run(folder, text, before=()):
 
 
 def tried(name, room, before, acknowledged):
-    """A run whose last gate is not written, one behind it, and what is there when the power is gone."""
+    """Makes the disk, and takes it away however the trial ends."""
     disk = Disk()
     fuse = os.open("/dev/fuse", os.O_RDWR)
     os.makedirs(f"{room}/fuse")
@@ -127,8 +126,19 @@ def tried(name, room, before, acknowledged):
         disk.serve(fuse)
         os._exit(0)
     os.close(fuse)
+    try:
+        cut(name, room, disk, before, acknowledged)
+    finally:
+        for at in ("later", "disk", "fuse"):
+            LIBC.umount2(f"{room}/{at}".encode(), DETACHED)
+        os.kill(server, signal.SIGKILL)
+        os.waitpid(server, 0)
+
+
+def cut(name, room, disk, before, acknowledged):
+    """A run whose last gate is not written, one behind it, and what is there when the power is gone."""
     called("mkfs.ext4", "-q", "-F", "-O", "^has_journal", f"{room}/fuse/disk")
-    loops = [mounted(f"{room}/fuse/disk", f"{room}/disk")]
+    mounted(f"{room}/fuse/disk", f"{room}/disk")
     folder = f"{room}/disk/store"
     os.mkdir(folder)
     check(f"{name}: a first file", run(folder, "@ann create /first x\n"), (0, "1: ok\n"))
@@ -140,20 +150,15 @@ def tried(name, room, before, acknowledged):
     check(f"{name}: the next run acknowledges", run(folder, "@ann create /ack y\n", before), (0, "1: ok\n"))
     with open(f"{room}/cut", "wb") as image:
         image.write(disk.bytes)
-    loops.append(mounted(f"{room}/cut", f"{room}/later"))
+    mounted(f"{room}/cut", f"{room}/later")
     check(f"{name}: behind the cut", run(f"{room}/later/store", "@ann read /ack\n"), (0, acknowledged))
-    for at, loop in zip(("disk", "later"), loops):
-        called("umount", f"{room}/{at}")
-        called("losetup", "-d", loop)
-    LIBC.umount2(f"{room}/fuse".encode(), DETACHED)
-    os.waitpid(server, 0)
 
 
 def main():
     scripts.program = os.path.abspath(sys.argv[1]) if len(sys.argv) > 1 else str(scripts.BUILT_PROGRAM)
-    lacking = [word for word in ("losetup", "mkfs.ext4", "strace", "mount") if shutil.which(word) is None]
+    lacking = [word for word in ("mkfs.ext4", "mount", "strace") if shutil.which(word) is None]
     if os.geteuid() or not os.path.exists("/dev/fuse") or lacking:
-        print("left out: it asks for root, /dev/fuse, losetup, mkfs.ext4 and strace")
+        print("left out: it asks for root, /dev/fuse, mkfs.ext4, mount and strace")
         return 0
     if LIBC.unshare(NEW_MOUNTS) or LIBC.mount(None, b"/", None, PRIVATE, None):
         sys.exit("no mounts of its own")
