@@ -4,8 +4,8 @@ was acknowledged has to be there. Ends with `N passed, M failed`, and with statu
 
     bench/failing_sync.py [PROGRAM]
 
-The file system is ext4 over a loop device, whose disk is in the memory of this script (by FUSE), so that one write of it can fail. Behind a
-sync that failed Linux reads the byte that was to be written, and counts it as written; the disk has the old one. The same is done
+The file system is ext4, with a journal and without one, over a loop device whose disk is in the memory of this script (by FUSE), so that one write
+of it can fail. Behind a sync that failed Linux reads the byte that was to be written, and counts it as written; the disk has the old one. The same is done
 with a run whose renewals of gates are left out, by strace: there the acknowledged file has to be gone, or else nothing is shown. It asks for root,
 /dev/fuse, mkfs.ext4, mount and strace, and says so where one can't be had.
 """
@@ -114,8 +114,9 @@ def run(folder, text, before=()):
     return ended.returncode, ended.stdout.decode()
 
 
-def tried(name, room, before, acknowledged):
+def tried(name, room, made, before, acknowledged):
     """Makes the disk, and takes it away however the trial ends."""
+    os.mkdir(room)
     disk = Disk()
     fuse = os.open("/dev/fuse", os.O_RDWR)
     os.makedirs(f"{room}/fuse")
@@ -127,7 +128,7 @@ def tried(name, room, before, acknowledged):
         os._exit(0)
     os.close(fuse)
     try:
-        cut(name, room, disk, before, acknowledged)
+        cut(name, room, disk, made, before, acknowledged)
     finally:
         for at in ("later", "disk", "fuse"):
             LIBC.umount2(f"{room}/{at}".encode(), DETACHED)
@@ -135,9 +136,9 @@ def tried(name, room, before, acknowledged):
         os.waitpid(server, 0)
 
 
-def cut(name, room, disk, before, acknowledged):
+def cut(name, room, disk, made, before, acknowledged):
     """A run whose last gate is not written, one behind it, and what is there when the power is gone."""
-    called("mkfs.ext4", "-q", "-F", "-O", "^has_journal", f"{room}/fuse/disk")
+    called("mkfs.ext4", "-q", "-F", *made, f"{room}/fuse/disk")
     mounted(f"{room}/fuse/disk", f"{room}/disk")
     folder = f"{room}/disk/store"
     os.mkdir(folder)
@@ -164,10 +165,9 @@ def main():
         sys.exit("no mounts of its own")
     left_out = ("strace", "-f", "-qq", "-o", "/dev/null", "-e", "trace=pwrite64", "-e", "inject=pwrite64:retval=1:when=1..3")
     with tempfile.TemporaryDirectory() as room:
-        os.mkdir(f"{room}/a")
-        tried("as it is", f"{room}/a", (), "1: bytes 1\n1| y\n")
-        os.mkdir(f"{room}/b")
-        tried("gates not given again", f"{room}/b", left_out, "1: refused no file /ack\n")
+        for kind, made in (("a journal", ()), ("no journal", ("-O", "^has_journal"))):
+            tried(f"{kind}, as it is", f"{room}/{kind[0]}1", made, (), "1: bytes 1\n1| y\n")
+            tried(f"{kind}, gates not given again", f"{room}/{kind[0]}2", made, left_out, "1: refused no file /ack\n")
     print(f"{counts['passed']} passed, {counts['failed']} failed")
     return 1 if counts["failed"] else 0
 

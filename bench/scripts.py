@@ -4,8 +4,8 @@ to be. Ends with `N passed, M failed`, and with status 1 where one failed.
 
     bench/scripts.py [--no-ticks] [--random COUNT] [--seed FIRST] [PROGRAM]
 
-- The stored scripts: `NAME.txt` in examples/ and bench/scripts/ has its answers in `NAME.told`, and where they are others than
-  `run` and 0 its words in `NAME.words` and its exit status in `NAME.status`. `NAME.1.txt`, `NAME.2.txt` are runs in one folder.
+- The stored scripts: `NAME.txt` in examples/, bench/scripts/ and the folders in it has its answers in `NAME.told`, and where they are
+  others than `run` and 0 its words in `NAME.words` and its exit status in `NAME.status`. `NAME.1.txt`, `NAME.2.txt` are runs in one folder.
 - Each of them that bench/model.py knows, with the bytes of all areas as the model has them.
 - Scripts that are cut into several runs; an area limited to each number of bytes; tokens that were not given; scripts by chance.
 
@@ -458,7 +458,8 @@ def main():
     program = os.path.abspath(given.program or BUILT_PROGRAM)
     has_ticks = not given.no_ticks
     scripts = ROOT / "bench" / "scripts"
-    cases = list(stored([ROOT / "examples", scripts] + ([] if given.no_ticks else [scripts / "clock"])))
+    inner = sorted(it for it in scripts.iterdir() if it.is_dir() and (has_ticks or it.name != "clock"))
+    cases = list(stored([ROOT / "examples", scripts, *inner]))
     stored_scripts(cases)
     cut_anywhere()
     cut_by_the_model(cases)

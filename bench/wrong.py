@@ -1,6 +1,7 @@
+#!/usr/bin/env python3
 """Tries the wrong bodies that the gate does not: the edits of crates/NAME/wrong/, each of which the prover must refuse.
 
-usage: bench/wrong.py [NAME..]     NAME is a crate; no name: every crate that has such edits
+    bench/wrong.py [NAME..]     # NAME is a crate; no name: every crate that has such edits
 
 It makes a copy of crates/, crates.txt and HANDLES in a temporary folder, in which the edits of wrong/ stand as the must-fail
 edits of the crates named, and no other edits are there, and runs `rt must-fail` on it, which begins with what earlier checks
