@@ -363,6 +363,18 @@ doomed_claim-recovers : Recovers doomed_claim
 unfolding doomed_claim up_to_4 step settle_one writes
 doomed_claim-recovers = refl
 
+-- in a doomed transaction a statement that alters links is refused, before the conflict that there is too; one that leaves them stands
+doomed_statement : List Act
+doomed_statement = up_to_4 ++ alone 2 (put_null 5) ++ does steps.CrashManager ∷ says 1 clear ∷ says 1 (put_null 7) ∷ does (steps.Prepare 1) ∷ []
+
+doomed_statement-answers : all_answers first doomed_statement ≡ told_4 ++ told 3 (answers.Changed 1) 2 ++ answers.Done ∷ answers.Refused (reasons.Doomed 1 2) ∷ answers.Changed 1 ∷ answers.Refused (reasons.Doomed 1 2) ∷ []
+unfolding doomed_statement up_to_4 step settle_one
+doomed_statement-answers = refl
+
+doomed_statement-recovers : Recovers doomed_statement
+unfolding doomed_statement up_to_4 step settle_one writes
+doomed_statement-recovers = refl
+
 -- Resolve beside sessions: what they have, decided or prepared, is neither ended nor counted, and goes on
 resolved_beside_sessions : List Act
 resolved_beside_sessions = up_to_4 ++ begins 2 ∷ says 2 (put_null 5) ∷ does (steps.Prepare 2) ∷ begins 3 ∷ does (steps.Prepare 3) ∷ does (steps.Prepare 1) ∷ does (steps.Decide 1) ∷ does steps.CrashDatabase
@@ -411,6 +423,42 @@ restored_backup-answers = refl
 restored_backup-recovers : RecoversLight restored_backup
 unfolding restored_backup step settle_one writes
 restored_backup-recovers = refl
+
+-- a backup waits for transactions that are voted for, and then for copies; a link that has its copy, and one that is none, is not archived
+waits : List Act
+waits = file ann (whats.Create path (codes "one")) ∷ alone 1 (make o3) ++ alone 1 (put 1 path) ++ does steps.Backup ∷ begins 1 ∷ says 1 (put_null 5) ∷ does (steps.Prepare 1) ∷ does steps.Backup ∷ does (steps.Rollback 1)
+    ∷ does (steps.Archive (link 2)) ∷ does (steps.Archive (link 2)) ∷ does (steps.Archive (link 9)) ∷ does steps.Backup ∷ []
+
+waits-answers : all_answers first waits ≡ answers.Done ∷ told 1 answers.Done 1 ++ told 2 (answers.Changed 1) 2 ++ answers.Refused (reasons.ArchivePending (link 2)) ∷ answers.Begun (tx 3) ∷ answers.Changed 1 ∷ answers.Done
+    ∷ answers.Refused (reasons.Unfinished (tx 3)) ∷ answers.Done ∷ answers.Archived 1 ∷ answers.Refused (reasons.NotPending (link 2)) ∷ answers.Refused (reasons.NotPending (link 9)) ∷ answers.BackedUp 1 ∷ []
+unfolding waits step settle_one
+waits-answers = refl
+
+-- why a restore is refused, in order: a session has a transaction; one is voted for; there is no such commit. It draws no number then
+restore_waits : List Act
+restore_waits = up_to_4 ++ does (steps.Prepare 1) ∷ does (steps.Restore (targets.Commit 9)) ∷ does steps.CrashDatabase ∷ does (steps.Restore (targets.Commit 9)) ∷ does steps.Resolve
+    ∷ does (steps.Restore (targets.Commit 9)) ∷ begins 1 ∷ does (steps.Rollback 1) ∷ does (steps.Restore (targets.Commit 0)) ∷ begins 1 ∷ []
+
+restore_waits-answers : all_answers first restore_waits ≡ told_4 ++ answers.Done ∷ answers.Refused (reasons.SessionBusy 1) ∷ answers.Done ∷ answers.Refused (reasons.Unfinished (tx 2)) ∷ answers.Resolved 0 1
+    ∷ answers.Refused (reasons.Restore (restores.NoTarget 9)) ∷ answers.Begun (2 ^ 33 + 1) ∷ answers.Done ∷ answers.Restored 2 [] ∷ answers.Begun (2 ^ 33 + 3) ∷ []
+unfolding restore_waits up_to_4 step settle_one
+restore_waits-answers = refl
+
+restore_waits-recovers : Recovers restore_waits
+unfolding restore_waits up_to_4 step settle_one writes
+restore_waits-recovers = refl
+
+-- nor where another file stands in the way
+in_the_way : List Act
+in_the_way = file ann (whats.Create path (codes "one")) ∷ alone 1 (make o3) ++ alone 1 (put 1 path) ++ alone 1 clear ++ file ann (whats.Write path (codes "two")) ∷ does (steps.Restore (targets.Commit 2)) ∷ begins 1 ∷ []
+
+in_the_way-answers : all_answers first in_the_way ≡ answers.Done ∷ told 1 answers.Done 1 ++ told 2 (answers.Changed 1) 2 ++ told 3 (answers.Changed 1) 3 ++ answers.Done ∷ answers.Refused (reasons.Restore (restores.InTheWay path)) ∷ answers.Begun (tx 4) ∷ []
+unfolding in_the_way step settle_one
+in_the_way-answers = refl
+
+in_the_way-recovers : RecoversLight in_the_way
+unfolding in_the_way step settle_one writes
+in_the_way-recovers = refl
 
 -- RECOVERY NO: a restore loses the cell whose file is gone
 lost_cell : List Act

@@ -8,6 +8,9 @@ pub mod Expansion
 pub mod Options
 pub mod Tables
 pub mod Changes
+pub mod Refusals
+pub mod Fitting
+pub mod Merging
 pub mod Expressions
 pub mod Digits
 pub mod Names

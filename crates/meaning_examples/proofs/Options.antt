@@ -36,9 +36,13 @@ the_seven_rows = refl
 abbrev commands : List CommandKind
 commands = kinds.Rename ∷ kinds.Delete ∷ kinds.Write ∷ kinds.Chmod ∷ kinds.Read ∷ []
 
--- the first row forbids to rename and to delete; a row of READ PERMISSION DB and WRITE PERMISSION BLOCKED forbids all
+-- the first row forbids to rename and to delete; a row of READ PERMISSION DB and WRITE PERMISSION BLOCKED forbids all; one of READ
+-- PERMISSION FS and WRITE PERMISSION BLOCKED lets reads pass
 first_row : map (forbids_kind (options read.Fs write.Fs false unlink.Nothing)) commands ≡ true ∷ true ∷ false ∷ false ∷ false ∷ []
 first_row = refl
+
+second_row : map (forbids_kind (options read.Fs write.Blocked false unlink.Restore)) commands ≡ true ∷ true ∷ true ∷ true ∷ false ∷ []
+second_row = refl
 
 last_row : map (forbids_kind (options read.Db write.Blocked true unlink.Delete)) commands ≡ true ∷ true ∷ true ∷ true ∷ true ∷ []
 last_row = refl

@@ -2,8 +2,11 @@ mod Clock
 mod Entries
 mod Held
 mod Lasting
+mod Onward
 mod Promised
+mod Refused
 mod Resolving
 mod Staying
 mod Stopped
+mod Unstopped
 mod Unused

@@ -71,7 +71,7 @@ step-adds s steps.Resolve = subst (λ (cs : List Commit). More s.commits cs) (sy
 
 -- A TURN
 
-abbrev state-by : State → Option Step → State
+abbrev pub state-by : State → Option Step → State
 state-by s None = s
 state-by s (Some x) = (step s x).1
 
@@ -85,7 +85,7 @@ by-lines : (r : Run) (lines : List Read) → (turn_on r lines).state ≡ state-b
 by-lines r [] = refl
 by-lines r (l ∷ more) = by-then r l more (comes_to r l)
 
-turn-state : (r : Run) → (turn r).state ≡ state-by r.state (next_step r)
+pub turn-state : (r : Run) → (turn r).state ≡ state-by r.state (next_step r)
 unfolding turn
 turn-state r = by-lines r r.lines
 
@@ -100,7 +100,7 @@ turns-add : (n : ℕ) (r : Run) → More r.state.commits (after n r).state.commi
 turns-add zero r = more-self r.state.commits
 turns-add (suc n) r = more-then r.state.commits (turn r).state.commits (after n (turn r)).state.commits (turn-adds r) (turns-add n (turn r))
 
-rest : (k n : ℕ) → k ≤ n → k + (n - k) ≡ n
+pub rest : (k n : ℕ) → k ≤ n → k + (n - k) ≡ n
 rest k n le = omega (arith, le)
 
 -- COMMITS ARE ONLY ADDED
@@ -214,14 +214,15 @@ told-tables s tx c later told =
     let last : c ≡ length later.commits = told.number ∙ sym (ap (λ (cs : List Commit). length cs) told.added ∙ length_push s.commits told.commit) in
     ap (λ (n : ℕ). past [] later.commits n) last ∙ past-last [] later.commits
 
-next-le : (k n : ℕ) → k < n → k + 1 ≤ n
+pub next-le : (k n : ℕ) → k < n → k + 1 ≤ n
 next-le k n lt = omega (arith, lt)
+
+-- what stands behind a turn that takes a step
+pub step-behind : (k : ℕ) (r : Run) (asked : Step) → next_step (after k r) ≡ Some asked → (step (after k r).state asked).1 ≡ (after (k + 1) r).state
+step-behind k r asked next = sym (ap (λ (q : Run). q.state) (after-next k r) ∙ turn-state (after k r) ∙ ap (state-by (after k r).state) next)
 
 -- and stay so
 module _ (k n c : ℕ) (r : Run) (lt : k < n) (asked : Step) (next : next_step (after k r) ≡ Some asked) (tx : ℕ) (told : Told (after k r).state tx c (step (after k r).state asked).1) where
-  behind : (step (after k r).state asked).1 ≡ (after (k + 1) r).state
-  behind = sym (ap (λ (q : Run). q.state) (after-next k r) ∙ turn-state (after k r) ∙ ap (state-by (after k r).state) next)
-
   pub told-stays : past [] (after n r).state.commits c ≡ Some (tables_of (after (k + 1) r).state)
   told-stays = tables-stay (k + 1) n c r (tables_of (after (k + 1) r).state) (next-le k n lt)
-      (subst (λ (s : State). past [] s.commits c ≡ Some (tables_of s)) behind (told-tables (after k r).state tx c (step (after k r).state asked).1 told))
+      (subst (λ (s : State). past [] s.commits c ≡ Some (tables_of s)) (step-behind k r asked next) (told-tables (after k r).state tx c (step (after k r).state asked).1 told))

@@ -90,11 +90,11 @@ abbrev IsBegun : Answer → Type 0
 IsBegun (answers.Begun n) = Unit {0}
 IsBegun _ = ⊥
 
-abbrev number_in : Answer → ℕ
+abbrev pub number_in : Answer → ℕ
 number_in (answers.Begun n) = n
 number_in _ = 0
 
-refused-begun : (why : Refusal) (n : ℕ) → answers.Refused why ≡ answers.Begun n → ⊥
+pub refused-begun : (why : Refusal) (n : ℕ) → answers.Refused why ≡ answers.Begun n → ⊥
 refused-begun why n e = subst IsBegun (sym e) tt
 
 pub begun : (s : State) (session n : ℕ) → (step s (steps.Begin session)).0 ≡ answers.Begun n → n ≡ number_of (drawing s)

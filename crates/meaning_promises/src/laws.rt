@@ -1,11 +1,14 @@
-// What a run keeps of a vote, of a decision, of a commit and of the numbers that were drawn. The functions do nothing: they carry laws.
+// What a run keeps of a vote, of a decision, of a commit and of the numbers that were drawn, and what a refusal changes. The functions do
+// nothing: they carry laws.
 ghost use Rattle.std.specs.Prelude.{◌≡◌, ℕ, ◌+◌, ◌/◌, ◌^◌, ◌<◌, ◌≤◌, true, false, List, [], ◌∷◌, ◌++◌, Some, None};
 ghost use Rattle.std.specs.FinMap as maps;
 ghost use Rattle.std.specs.List.{Contains};
 ghost use Rattle.dl_base.specs.declared.answer.Answer.TheVariants as answers;
 ghost use Rattle.dl_base.specs.declared.answer.Lost as cells;
 ghost use Rattle.dl_base.specs.declared.answer.Refusal as refusals;
+ghost use Rattle.dl_base.specs.declared.statement.Stmt as said;
 ghost use Rattle.dl_base.specs.declared.step.Phase.TheVariants as phases;
+ghost use Rattle.dl_base.specs.declared.step.Settings as options;
 ghost use Rattle.dl_base.specs.declared.step.Step as asked;
 ghost use Rattle.dl_base.specs.declared.step.Step.TheVariants as steps;
 ghost use Rattle.dl_base.specs.declared.step.Target as aims;
@@ -17,11 +20,11 @@ ghost use Rattle.meaning_areas.specs.Stands.{past};
 ghost use Rattle.meaning_history.specs.Reached.{HasHistory};
 ghost use Rattle.meaning_history.specs.Sound.{AreSound};
 ghost use Rattle.meaning_run.specs.Running.{Run, after, next_step, step_writes, written};
-ghost use Rattle.meaning_system.specs.Machine.{drawing, next_commit, step, with_phase};
-ghost use Rattle.meaning_system.specs.State.{State, Txn, has_links, is_active, moved_of, number_of, tables_of};
-ghost use Rattle.meaning_system.specs.Writes.{prepared, writes};
+ghost use Rattle.meaning_system.specs.Machine.{drawing, next_commit, start, step, with_phase};
+ghost use Rattle.meaning_system.specs.State.{State, Txn, ended, has_links, is_active, is_prepared, moved_of, number_of, stored, tables_of, txn_of, with_txn};
+ghost use Rattle.meaning_system.specs.Writes.{aborted, prepared, writes};
 ghost use Rattle.meaning_tables.specs.Tables.{Tables};
-ghost use Rattle.meaning_promises.specs.Promises.{IsDecision, IsNew, IsVote, decision_record, may_end, vote_record};
+ghost use Rattle.meaning_promises.specs.Promises.{Draws, IsConflict, IsDecision, IsNew, IsVote, decision_record, may_change, may_end, naming, vote_record};
 
 /// A VOTE IS WRITTEN. All that a Prepare writes which is answered Done is one record in Links, with exactly the links that its
 /// transaction gives and takes; where it gives and takes none, nothing is written. In the other four areas nothing is written, and
@@ -81,10 +84,29 @@ pub fn commits_stay()
 /// NUMBERS ARE NEW. The number that is drawn next is greater than each transaction number that there is: of commits, of transactions
 /// that have not ended, of branches in Links, and in the numbers of links, be they of the tables after some commit or of a copy that is
 /// not decided. A Begin answers it, and the commit of a restore has it. It is of the present opening of Rows, where one is left to draw.
+/// No step sets the last number back, so each is above every number that was drawn before, also those of transactions that left nothing;
+/// so it is along the run of a script, of which no line that is built stops the database. A stop of the database, and the next run over
+/// areas that recover to a state, owe that no more than 2 ^ 32 numbers were drawn; fewer were in each state that is sound (`HasSessions`).
 pub fn numbers_are_new()
     ensures fresh { (first : ℕ) (f : Folds) (s : State) → AreSound first f s → IsNew (number_of (drawing s)) f s }
     ensures begun { (s : State) (session n : ℕ) → (step s (steps.Begin session)).0 ≡ answers.Begun n → n ≡ number_of (drawing s) }
     ensures restored { (s : State) (t : aims.Target) (c : ℕ) (lost : List cells.Lost) → (step s (steps.Restore t)).0 ≡ answers.Restored c lost
         → (commit : Commit) × ((step s (steps.Restore t)).1.commits ≡ s.commits ++ commit ∷ []) × (c ≡ next_commit s) × (commit.tx ≡ number_of (drawing s)) }
     ensures present { (s : State) → s.drawn + 1 < 2 ^ 32 → number_of (drawing s) / 2 ^ 32 ≡ s.rows_opening }
+    ensures onward { (s : State) (x : asked.Step) → (x ≡ steps.CrashDatabase → s.drawn ≤ 2 ^ 32) → number_of s ≤ number_of (step s x).1 }
+    ensures last { (s : State) (x : asked.Step) (n : ℕ) → Draws s x n → number_of (step s x).1 ≡ n }
+    ensures reopened { (given : options.Settings) (s : State) → s.drawn ≤ 2 ^ 32 → number_of s ≤ number_of (start given (stored s)) }
+    ensures along { (k n : ℕ) (r : Run) → k ≤ n → number_of (after k r).state ≤ number_of (after n r).state }
+    ensures following { (k n m p : ℕ) (x y : asked.Step) (r : Run) → k < n → next_step (after k r) ≡ Some x → next_step (after n r) ≡ Some y → Draws (after k r).state x m → Draws (after n r).state y p → m < p }
+{}
+
+/// WHAT IS REFUSED CHANGES NOTHING, and writes nothing, but for two. A statement that is refused in an active transaction adds to it the
+/// tables that it names, alone. A Decide that is refused in a prepared transaction is its Conflict, and ends it: of a transaction that gives
+/// or takes links, Aborted is written. Where the session has no transaction, or one in another phase, these two change nothing either.
+pub fn what_is_refused_changes_nothing()
+    ensures others { (s : State) (x : asked.Step) (why : refusals.Refusal) → (step s x).0 ≡ answers.Refused why → may_change s x ≡ false → ((step s x).1 ≡ s) × (writes s x ≡ []) }
+    ensures statements { (s : State) (session tx : ℕ) (t : Txn) (stmt : said.Stmt) (why : refusals.Refusal) → txn_of s session ≡ Some (tx, t) → is_active t.phase ≡ true → (step s (steps.Statement session stmt)).0 ≡ answers.Refused why
+        → ((step s (steps.Statement session stmt)).1 ≡ with_txn s tx (naming t stmt)) × (writes s (steps.Statement session stmt) ≡ []) }
+    ensures decisions { (s : State) (session tx : ℕ) (t : Txn) (why : refusals.Refusal) → txn_of s session ≡ Some (tx, t) → is_prepared t.phase ≡ true → (step s (steps.Decide session)).0 ≡ answers.Refused why
+        → IsConflict s t why × ((step s (steps.Decide session)).1 ≡ ended s session tx) × (writes s (steps.Decide session) ≡ aborted tx (moved_of t)) }
 {}

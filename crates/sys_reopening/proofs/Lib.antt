@@ -1,3 +1,5 @@
 pub mod Alike
+pub mod Empty
 pub mod Finding
 pub mod Leading
+pub mod Standing

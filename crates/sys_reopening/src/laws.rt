@@ -1,5 +1,5 @@
 // What the next opening finds, and what a crash leaves of a call of the file manager. The functions do nothing: they carry laws.
-ghost use Rattle.std.specs.Prelude.{◌≡◌, ◌≢◌, ◌<◌, ◌^◌, ◌∷◌, [], ℕ, List, Option, Some, None};
+ghost use Rattle.std.specs.Prelude.{◌≡◌, ◌≢◌, ◌<◌, ◌≤◌, ◌^◌, ◌∷◌, [], ℕ, List, Option, Some, None, Ok};
 ghost use Rattle.dl_areas.specs.Lists.{Journals, Lists};
 ghost use Rattle.dl_base.specs.Outside.{AtEveryMoment, CrashState};
 ghost use Rattle.dl_base.specs.declared.area.Area.{Area};
@@ -13,12 +13,13 @@ ghost use Rattle.dl_codec.specs.declared.archive.FileCopy.{FileCopy};
 ghost use Rattle.dl_codec.specs.declared.links.BranchPhase.{BranchPhase};
 ghost use Rattle.dl_codec.specs.declared.links.LinksRecord.TheVariants as links_records;
 ghost use Rattle.dl_codec.specs.declared.links.Taken.{Taken};
+ghost use Rattle.dl_journal.specs.Records.{records};
 ghost use Rattle.fm_manager.specs.Managed.{AreSpelled, FoldsTo, IsSpelled, IsTakenBy, Managed, Manages, ManagesStep, as_writes, folds_with, kept_in};
 ghost use Rattle.fm_manager.specs.Pieces.{AreOf, Pieces, manager_part, settling_part};
-ghost use Rattle.meaning_areas.specs.Areas.{Areas, AreasStand, StandForNothing};
+ghost use Rattle.meaning_areas.specs.Areas.{Areas, AreasStand, StandForNothing, bytes_of};
 ghost use Rattle.meaning_areas.specs.Commits.{Commits};
 ghost use Rattle.meaning_areas.specs.Copies.{Backup};
-ghost use Rattle.meaning_areas.specs.Lists.{Folds, Written, in_archive, in_links};
+ghost use Rattle.meaning_areas.specs.Lists.{Folds, Written, in_archive, in_links, no_folds};
 ghost use Rattle.meaning_areas.specs.Stands.{IsStand, Stored, stored_of};
 ghost use Rattle.meaning_history.specs.Reached.{first_of};
 ghost use Rattle.meaning_history.specs.Sound.{AreSound};
@@ -83,6 +84,22 @@ pub fn the_next_run_begins_there<B: Bench>()
 {
     areas_stand_where_all_compares();
 }
+
+/// WHERE EVERY IMAGE STANDS, as `recovers` of the top call and the laws on stopped openings ask it before a run. Over areas without a record
+/// (`empty`), which stand for no commit, file, copy or backup (`stand`): those of a new bench in memory have no byte. Behind a crash that left
+/// what stands, where each image has the records that it left (`crashed`): a bench in memory has all areas synced behind one, and that what
+/// was left stands is what `recovers` says. And behind a run of which `recovers` says so, where the bench tells what was told (`behind`): t is
+/// the moment at which the run began, by `history` none later than now. The last two are said too of what stands alike, as what a stopped
+/// opening leaves does (`left`, `stopped`): so openings may be stopped any number of times.
+pub fn every_image_stands_there<B: Bench>()
+    ensures stand { (x : Areas) → ((a : Area) → records (bytes_of x a) ≡ Ok []) → AreasStand x (stored_of no_folds) }
+    ensures empty { (o : B) → ((a : Area) (c : List ℕ) → (B.outside o).image a c → records c ≡ Ok []) → EveryImageStands (B.outside o) × EveryImageStandsAlike (B.outside o) (stored_of no_folds) }
+    ensures crashed { (p : CrashState) (s : Stored) (o : B) → AreasStand (areas_of p) s → ((a : Area) (c : List ℕ) → (B.outside o).image a c → records c ≡ records (p.areas a))
+        → EveryImageStands (B.outside o) × EveryImageStandsAlike (B.outside o) s }
+    ensures behind { (t : ℕ) (told : List ℕ) (n : B) → t ≤ (B.outside n).moment → (B.outside n).told ≡ Some told → ((p : CrashState) → (B.outside n).since t p → (x : Stored) × AreasStand (areas_of p) x) → EveryImageStands (B.outside n) }
+    ensures left { (p : CrashState) (s : Stored) (o : B) → StandAlike (areas_of p) s → ((a : Area) (c : List ℕ) → (B.outside o).image a c → records c ≡ records (p.areas a)) → EveryImageStandsAlike (B.outside o) s }
+    ensures stopped { (t : ℕ) (told : List ℕ) (s : Stored) (n : B) → t ≤ (B.outside n).moment → (B.outside n).told ≡ Some told → ((p : CrashState) → (B.outside n).since t p → StandAlike (areas_of p) s) → EveryImageStandsAlike (B.outside n) s }
+{}
 
 /// WHAT STANDS IS NEVER REFUSED. Of areas that stand for something it is never told that they stand for nothing, whatever the area and the
 /// place: so by the clauses that say what `NotAStore` means, neither an opening nor a run over them ends so. It is enough that all

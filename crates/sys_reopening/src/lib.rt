@@ -4,6 +4,6 @@
 mod laws;
 
 pub use laws::{
-    a_stopped_opening_keeps_what_stood, a_stopped_opening_stands, the_manager_at_each_moment,
-    the_next_run_begins_there, what_stands_is_never_refused,
+    a_stopped_opening_keeps_what_stood, a_stopped_opening_stands, every_image_stands_there,
+    the_manager_at_each_moment, the_next_run_begins_there, what_stands_is_never_refused,
 };

@@ -1,4 +1,5 @@
 use Rattle.std.proofs.Common.{◌+◌}
+use Rattle.meaning_promises.proofs.Onward.{along, draws-next, following, reopened, step-onward}
 use Rattle.meaning_promises.proofs.Staying.{restore-told}
 use Rattle.meaning_promises.proofs.Unused.{all-new, begun}
 use Rattle.meaning_promises.proofs.laws.numbers_are_new.Goals as goal
@@ -17,3 +18,18 @@ returns-clause-restored c s t number lost answer =
 
 pub returns-clause-present : goal.returns-clause-present
 returns-clause-present c s small = number-present s.rows_opening (s.drawn + 1) small
+
+pub returns-clause-onward : goal.returns-clause-onward
+returns-clause-onward c = step-onward
+
+pub returns-clause-last : goal.returns-clause-last
+returns-clause-last c s x n draws = (draws-next s x n draws).0
+
+pub returns-clause-reopened : goal.returns-clause-reopened
+returns-clause-reopened c = reopened
+
+pub returns-clause-along : goal.returns-clause-along
+returns-clause-along c = along
+
+pub returns-clause-following : goal.returns-clause-following
+returns-clause-following c = following
