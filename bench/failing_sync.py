@@ -1,6 +1,6 @@
 #!/usr/bin/env python3
 """Has the write of a gate fail on a real file system, goes on in the next run, takes the power away, and looks at what is left: all that
-was acknowledged has to be there. Ends with `N passed, M failed`, and with status 1 where one failed.
+was acknowledged has to be there. Ends with `N passed, M failed`, and with status 1 where one failed; with 77 where it is left out.
 
     bench/failing_sync.py [PROGRAM]
 
@@ -160,7 +160,7 @@ def main():
     lacking = [word for word in ("mkfs.ext4", "mount", "strace") if shutil.which(word) is None]
     if os.geteuid() or not os.path.exists("/dev/fuse") or lacking:
         print("left out: it asks for root, /dev/fuse, mkfs.ext4, mount and strace")
-        return 0
+        return 77
     if LIBC.unshare(NEW_MOUNTS) or LIBC.mount(None, b"/", None, PRIVATE, None):
         sys.exit("no mounts of its own")
     left_out = ("strace", "-f", "-qq", "-o", "/dev/null", "-e", "trace=pwrite64", "-e", "inject=pwrite64:retval=1:when=1..3")

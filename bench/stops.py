@@ -1,6 +1,6 @@
 #!/usr/bin/env python3
 """Stops the machine at each device call of a script, and looks at what the built program finds then: rows, links and files are as some of
-the steps leave them. Ends with `N passed, M failed`, and with status 1 where one failed.
+the steps leave them. Ends with `N passed, M failed`: with status 1 where one failed, else with 77 where a part was left out.
 
     bench/stops.py [PROGRAM]
 
@@ -8,8 +8,9 @@ the steps leave them. Ends with `N passed, M failed`, and with status 1 where on
   what was not synced is kept, lost or torn; the program then finds what bench/model.py says. The same where that run, which opens what
   the crash left, is itself stopped at each call of each of its records.
 - **Killed**: the program is killed at each of its calls that write or sync, by strace, and each of these calls fails once, which is status
-  3. What stands in the areas then is what the first records of the script leave, in the model's order; all that was told stands, and the
-  line behind it is the last with a record. The next run finds what the model says. A call that is interrupted is made again.
+  3; to go on as if it had not failed, or to make it again, is a failure here. What stands in the areas then is what the first records of
+  the script leave, in the model's order; all that was told stands, and the line behind it is the last with a record. The next run finds
+  what the model says. A call that is interrupted is made again.
 - **Opened**: an opening gives the gate of the last record of each area again, and then syncs the area.
 
 The last two are left out where there is no strace.
@@ -235,15 +236,15 @@ def is_behind(count, said, behind, told):
     return (behind[lines] if said else 0) <= count <= behind[min(lines + 1, len(behind) - 1)]
 
 
-def stopped(name, text, how, status):
-    """A run that is stopped so at each of its calls; how many calls of each kind it makes."""
+def stopped(name, text, how, status, known=None):
+    """A run that is stopped so at each of its calls; how many calls of each kind it makes. Where that is known, each of these is to stop it."""
     whole, behind, told = written_by_line(text)
     calls = {}
     for call in CALLS:
         for number in range(1, 100_000):
             with room() as folder:
                 ended, said = traced(folder, call, how, number, text)
-                if ended == 0:
+                if ended == 0 and (known is None or number > known[call]):
                     calls[call] = number - 1
                     break
                 where = f"{name}, {how}, at {call} {number}"
@@ -252,9 +253,16 @@ def stopped(name, text, how, status):
                     there, _ = at_record(Folder(), text, count)
                     found_then = run(folder, "run", LOOKS) + ({area: closed(held) for area, held in areas_in(folder).items()},)
                     check(f"{where}: what is found", found_then, wanted(there))
-                elif ended not in (status, 3):
+                elif ended not in (status, 3, 0):
                     sys.exit("strace does not work here")
     return calls
+
+
+def synced(name, text, calls):
+    """Each record is written by four calls and synced twice: where a program makes fewer, there is none to be stopped at."""
+    records = len(written_by_line(text)[0].written)
+    enough = (calls["pwrite64"] >= 4 * records, calls["fsync"] + calls["fdatasync"] >= 2 * records)
+    check(f"{name}: {records} records, {calls}: writes and syncs enough", enough, (True, True))
 
 
 def interrupted(name, text, calls):
@@ -311,17 +319,19 @@ def opened(name, text):
 
 def main():
     scripts.program = os.path.abspath(sys.argv[1]) if len(sys.argv) > 1 else str(scripts.BUILT_PROGRAM)
+    has_strace = shutil.which("strace") is not None
     for name, text in SCRIPTS:
         made(name, text)
-        if shutil.which("strace"):
+        if has_strace:
             calls = stopped(name, text, "signal=KILL", -signal.SIGKILL)
-            stopped(name, text, "error=EIO", 3)
+            synced(name, text, calls)
+            stopped(name, text, "error=EIO", 3, calls)
             interrupted(name, text, calls)
             opened(name, text)
-        else:
-            print("killed, failed, interrupted and opened: left out, since there is no strace")
+    if not has_strace:
+        print("killed, failed, interrupted and opened: left out, since there is no strace")
     print(f"{counts['passed']} passed, {counts['failed']} failed")
-    return 1 if counts["failed"] else 0
+    return 1 if counts["failed"] else 0 if has_strace else 77
 
 
 if __name__ == "__main__":

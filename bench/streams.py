@@ -1,7 +1,8 @@
 #!/usr/bin/env python3
 """Runs the built program where its surroundings fail: closed streams, a folder that another run has, areas that are no
-files of their own, a kill, a full disk, output that nobody takes, and each end that has a status of its own. It looks at the status, at what was told, and at what
-stands in the files of the five areas afterwards. Prints a line for each, and ends with 1 where one is not as it should be.
+files of their own, a kill, a full disk, output that nobody takes, streams that do not block, and each end that has a
+status of its own. It looks at the status, at what was told, and at what stands in the files of the five areas afterwards.
+Prints a line for each, and ends with status 1 where one is not as it should be, else with 77 where a part was left out.
 
     bench/streams.py [PROGRAM]
 """
@@ -22,7 +23,7 @@ OPENED = b"\x01\0\0\0\0\0\0\0\x05\x01\0\0\0\x01\0"
 FIRST = b"@ann create /a one\n"
 READ = b"@ann read /a\n"
 READ_TOLD = b"1: bytes 3\n1| one\n"
-bad = []
+bad, left_out = [], []
 
 
 def program():
@@ -39,6 +40,11 @@ def check(name, holds, why=""):
     print(f"{'ok ' if holds else 'BAD'}  {name}{'' if holds else '  ' + str(why)}", flush=True)
     if not holds:
         bad.append(name)
+
+
+def leave_out(name, why):
+    print(f"     {name}: left out, since {why}", flush=True)
+    left_out.append(name)
 
 
 def run(folder, script=b"", words=("run",), before=None, **streams):
@@ -223,7 +229,7 @@ def shared_areas():
             file.truncate(1 << 20)
         made = shutil.which("losetup") and subprocess.run(["losetup", "--show", "-f", image], stdout=subprocess.PIPE, stderr=subprocess.DEVNULL)
         if not made or made.returncode:
-            print("     an area that is a block device: left out, since none can be made here")
+            leave_out("an area that is a block device", "none can be made here")
             return
         device = made.stdout.decode().strip()
         try:
@@ -252,26 +258,31 @@ def folders_of_one_store():
         check("two folders of one store: the links stay", all(os.path.islink(os.path.join(f, a)) for f in (one, other) for a in AREAS))
 
 
-def told_until_killed(folder, script, lines):
-    """The whole lines that a run told which was killed when it had told so many."""
+def told_until_killed(name, folder, script, lines):
+    """The whole lines that a run told which was killed when it had told so many, and was not at its end: the pipe has no room for all."""
     process = subprocess.Popen([PROGRAM, "run"], cwd=folder, stdin=subprocess.PIPE, stdout=subprocess.PIPE)
+    fcntl.fcntl(process.stdout, fcntl.F_SETPIPE_SZ, 4096)
     process.stdin.write(script)
     process.stdin.close()
     told = b"".join(process.stdout.readline() for _ in range(lines))
     process.send_signal(signal.SIGKILL)
     told += process.stdout.read()
     process.wait()
+    ended = (process.returncode, told.count(b"\n") >= lines)
+    check(f"{name}: it was, and had told so many", ended == (-signal.SIGKILL, True), ended)
     return told[: told.rfind(b"\n") + 1]
 
 
 def killed():
     for lines in (1, 7, 100):
+        name = f"killed behind line {lines}"
         with tempfile.TemporaryDirectory() as folder:
-            told = told_until_killed(folder, creates(3000), lines)
-            check(f"killed behind line {lines}: what was told is there", acknowledged(folder, told))
+            told = told_until_killed(name, folder, creates(3000), lines)
+            check(f"{name}: what was told is there", acknowledged(folder, told))
+        name += " of links"
         with tempfile.TemporaryDirectory() as folder:
-            told = told_until_killed(folder, links(1500), lines)
-            check(f"killed behind line {lines} of links: rows and files go together", linked(folder, told))
+            told = told_until_killed(name, folder, links(1500), lines)
+            check(f"{name}: rows and files go together", linked(folder, told))
 
 
 def full_disk():
@@ -287,7 +298,7 @@ def full_disk():
     with tempfile.TemporaryDirectory() as folder:
         mounted = subprocess.run(["mount", "-t", "tmpfs", "-o", "size=64k", "tmpfs", folder], stderr=subprocess.DEVNULL)
         if mounted.returncode:
-            print("     a full disk: left out, since nothing can be mounted here")
+            leave_out("a full disk", "nothing can be mounted here")
         else:
             try:
                 status, told, _ = run(folder, creates(3000))
@@ -311,6 +322,33 @@ def lost_output():
             os.close(writing)
             check(f"a pipe that nobody reads, SIGPIPE {name}: status 3", status == 3, status)
             check(f"a pipe that nobody reads, SIGPIPE {name}: the areas have what they had", extends(old, content(folder)) and reads_again(folder))
+
+
+def pipe_that_does_not_block():
+    """Both ends of one with room for 4,096 bytes."""
+    reading, writing = os.pipe()
+    fcntl.fcntl(writing, fcntl.F_SETPIPE_SZ, 4096)
+    for end in (reading, writing):
+        os.set_blocking(end, False)
+    return reading, writing
+
+
+def no_waiting():
+    with tempfile.TemporaryDirectory() as folder:
+        reading, writing = pipe_that_does_not_block()
+        ended = run(folder, stdin=reading)
+        for end in (reading, writing):
+            os.close(end)
+        check("input that does not block and had nothing yet: status 4", ended == (4, b"", b"datalinks: status 4\n"), ended)
+        check("input that does not block and had nothing yet: no file is made", content(folder) == {}, content(folder))
+    with tempfile.TemporaryDirectory() as folder:
+        reading, writing = pipe_that_does_not_block()
+        status, _, complaint = run(folder, creates(3000), stdout=writing)
+        os.close(writing)
+        with open(reading, "rb") as file:
+            told = file.read()
+        check("output that does not block and had no room: status 3", (status, complaint) == (3, b"datalinks: status 3\n"), (status, complaint))
+        check("output that does not block: what was told is there", told.count(b": ok\n") > 100 and acknowledged(folder, told), told[-100:])
 
 
 def statuses():
@@ -349,6 +387,7 @@ folders_of_one_store()
 killed()
 full_disk()
 lost_output()
+no_waiting()
 statuses()
 print(f"{len(bad)} not as it should be")
-sys.exit(1 if bad else 0)
+sys.exit(1 if bad else 77 if left_out else 0)
