@@ -134,8 +134,8 @@ class Checkout:
         self.program = self.root / OUT / NAME
         self.stub("rt", RT)
         self.tell(program=PROGRAM, makes="whole", status="0", sync_status="0")
-        self.env = {**os.environ, "PATH": f"{self.path}:{os.environ['PATH']}", "TMPDIR": str(self.tmp), "NOTES": str(self.notes), "ROOT_OF_COPY": str(self.root)}
-        self.env.pop("GLIBC_TUNABLES", None)
+        self.env = {name: value for name, value in os.environ.items() if name != "GLIBC_TUNABLES"}
+        self.env.update(PATH=f"{self.path}:{os.environ['PATH']}", TMPDIR=str(self.tmp), NOTES=str(self.notes), ROOT_OF_COPY=str(self.root))
         self.complaint = ""
 
     def write(self, path, text):
@@ -295,7 +295,8 @@ def not_built():
             check(f"{name}: status 1, and no program", (ended, programs), ((1, ""), []))
             check(f"{name}: the log alone stays", [log.partition(".")[0] for log in logs], ["datalinks-build"])
             said = ["", *it.complaint.splitlines()]
-            check(f"{name}: the log is shown and named", (said[-2:-1], said[-1].endswith(f"{it.tmp}/{logs[0]}" if logs else "?")), (["rt: dl_base proved"], True))
+            named = said[-1].endswith(f"{it.tmp}/{logs[0]}" if logs else "?")
+            check(f"{name}: the log is shown and named", (said[-2:-1], named), (["rt: dl_base proved"], True))
             it.tell(makes="whole", status="0")
             check(f"{name}: the next call builds", it.call("run"), it.ran(2, "run"))
     with checkout() as it:
@@ -510,7 +511,8 @@ def given():
 
 
 def main():
-    for part in (built_once, built_anew, changed_meanwhile, synced, not_built, interrupted, on_a_terminal, can_not_be_written, two_at_once, without_locks, free_while_it_runs, given):
+    parts = (built_once, built_anew, changed_meanwhile, synced, not_built, interrupted, on_a_terminal, can_not_be_written)
+    for part in (*parts, two_at_once, without_locks, free_while_it_runs, given):
         part()
     print(f"{counts['passed']} passed, {counts['failed']} failed")
     return 1 if counts["failed"] else 77 if left_out else 0

@@ -331,7 +331,7 @@ def main():
     if not has_strace:
         print("killed, failed, interrupted and opened: left out, since there is no strace")
     print(f"{counts['passed']} passed, {counts['failed']} failed")
-    return 1 if counts["failed"] else 0 if has_strace else 77
+    return 1 if counts["failed"] else 77 if not has_strace else 0
 
 
 if __name__ == "__main__":
