@@ -123,7 +123,7 @@ def main():
     made = {'Maps': MAPS}
     made['UserFiles'] = (
         FILES + between(read('meaning_files', 'Files'), '-- the files with a new owner and', None) + '\n'
-        + between(read('meaning_files', 'Commands'), '-- WHY A COMMAND IS REFUSED', '-- A FILE COMMAND that no link')).rstrip() + '\n'
+        + between(read('meaning_files', 'Commands'), '-- WHY A COMMAND IS REFUSED', None)).rstrip() + '\n'
     for crate, modules in COPIED.items():
         for module in modules:
             made[module] = moved(read(crate, module))

@@ -1,8 +1,8 @@
 -- Numbers in digits, and the bounds that the code has beside the definitions: what the definitions make of them.
 use Rattle.std.proofs.Common.{◌≡◌, ◌-◌, ◌^◌, [], codes, Some, None, refl}
 use Rattle.dl_base.specs.Digits.{is_number, number_in}
-use Rattle.dl_base.specs.Limits.{most_name_bytes, most_path_bytes, most_columns, most_varchar_bytes, most_tables, most_rows, row_numbers, most_sources, most_combined_rows, most_operators, most_open_parentheses, most_numbers, most_links, most_files, most_actors, most_actor_name_bytes, most_line_bytes, most_script_bytes}
-use Rattle.dl_base.specs.declared.limits.TheConstants.{MOST_NAME_BYTES, MOST_PATH_BYTES, MOST_COLUMNS, MOST_VARCHAR_BYTES, MOST_TABLES, MOST_ROWS, ROW_NUMBERS, MOST_SOURCES, MOST_COMBINED_ROWS, MOST_OPERATORS, MOST_OPEN_PARENTHESES, MOST_NUMBERS, MOST_LINKS, MOST_FILES, MOST_ACTORS, MOST_ACTOR_NAME_BYTES, MOST_LINE_BYTES, MOST_SCRIPT_BYTES}
+use Rattle.dl_base.specs.Limits.{most_name_bytes, most_path_bytes, most_columns, most_varchar_bytes, most_comment_bytes, most_tables, most_rows, row_numbers, most_sources, most_combined_rows, most_operators, most_open_parentheses, most_numbers, most_links, most_files, most_actors, most_actor_name_bytes, most_line_bytes, most_script_bytes}
+use Rattle.dl_base.specs.declared.limits.TheConstants.{MOST_NAME_BYTES, MOST_PATH_BYTES, MOST_COLUMNS, MOST_VARCHAR_BYTES, MOST_COMMENT_BYTES, MOST_TABLES, MOST_ROWS, ROW_NUMBERS, MOST_SOURCES, MOST_COMBINED_ROWS, MOST_OPERATORS, MOST_OPEN_PARENTHESES, MOST_NUMBERS, MOST_LINKS, MOST_FILES, MOST_ACTORS, MOST_ACTOR_NAME_BYTES, MOST_LINE_BYTES, MOST_SCRIPT_BYTES}
 
 -- numbers in digits
 
@@ -63,6 +63,9 @@ columns = refl
 
 varchar_bytes : MOST_VARCHAR_BYTES ≡ most_varchar_bytes
 varchar_bytes = refl
+
+comment_bytes : MOST_COMMENT_BYTES ≡ most_comment_bytes
+comment_bytes = refl
 
 tables : MOST_TABLES ≡ most_tables
 tables = refl

@@ -1,4 +1,5 @@
--- The bounds of the system. What would pass one is refused, and changes nothing.
+-- The bounds of the system. What would pass one is refused, or ends the run, and changes nothing; but the commits of several
+-- transactions may together pass that of tables, and a restore those of tables and files, past which a CREATE TABLE and a create are refused.
 use Rattle.std.specs.Prelude.{ℕ, suc, ◌-◌, ◌^◌}
 
 -- bytes of a name
@@ -16,6 +17,10 @@ most_columns = 64
 -- bytes of a VARCHAR, by its column
 abbrev pub most_varchar_bytes : ℕ
 most_varchar_bytes = 4000
+
+-- bytes of a datalink's comment
+abbrev pub most_comment_bytes : ℕ
+most_comment_bytes = 200
 
 -- tables
 abbrev pub most_tables : ℕ

@@ -1,4 +1,6 @@
-//! The bounds of the system. What would pass one is refused, and changes nothing.
+//! The bounds of the system. What would pass one is refused, or ends the run, and changes nothing; but the commits of several
+//! transactions may together pass that of tables, and a restore those of tables and files, past which a CREATE TABLE and a create are
+//! refused.
 
 /// Bytes of a name.
 pub const MOST_NAME_BYTES: usize = 64;
@@ -11,6 +13,9 @@ pub const MOST_COLUMNS: usize = 64;
 
 /// Bytes of a VARCHAR, by its column.
 pub const MOST_VARCHAR_BYTES: u32 = 4000;
+
+/// Bytes of a datalink's comment.
+pub const MOST_COMMENT_BYTES: usize = 200;
 
 /// Tables.
 pub const MOST_TABLES: usize = 256;

@@ -27,14 +27,15 @@ pub struct Settings {
     pub limit: u64,
 }
 
-/// What tables are restored to: a backup, or a commit, by its number from 1.
+/// What tables are restored to: a backup, by its number from 1; or what stood after a commit, by its number, where after commit 0 there
+/// was no table.
 #[derive(Clone, Copy)]
 pub enum Target {
     Backup(u64),
     Commit(u64),
 }
 
-/// A step of the machine, done whole or not at all. Sessions go by their numbers, from 1.
+/// A step of the machine; each but `Resolve` is done whole or not at all. Sessions go by their numbers, from 1.
 #[derive(Drop)]
 pub enum Step {
     Begin(u32),

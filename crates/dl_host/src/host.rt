@@ -1,4 +1,4 @@
-// What the areas and the script ask of the system, one call a method.
+// What the areas and the script ask of the system, one call a method but for the lock's and the opening's.
 ghost use Rattle.std.specs.Prelude.{◌≡◌, ◌+◌, ◌≤◌, ◌<◌, ◌^◌, true, false, List, ℕ, [], length, slice_get, take, Option, Some, Err, IfOk, OnOk, OnErr};
 ghost use Rattle.dl_base.specs.declared.area.Area.{Area};
 ghost use Rattle.std.specs.Option.{ForSome};

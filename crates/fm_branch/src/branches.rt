@@ -114,9 +114,9 @@ impl Branches {
     }
 
     /// Writes the Prepared of a transaction that has none: it gives these links, which are held, and takes these on paths that are
-    /// free or given. It takes its memory before it writes. The errors are `Memory`, also where the record would have a list of 2^32
-    /// items; `Full(Area)` where the area has no room for the record; and `Device`, after which the area is to be opened again. It
-    /// costs the links, and a logarithm of the held ones for each take.
+    /// free or given. It takes its memory before it writes. The errors are `Memory`, also where the record has no spelling: a text or a list
+    /// of 2^32 items, or options that are none of the seven rows; `Full(Area)` where the area has no room for the record; and `Device`,
+    /// after which the area is to be opened again. It costs the links, and a logarithm of the held ones for each take.
     pub fn prepare<B: Bench>(
         &mut self,
         bench: &mut B,

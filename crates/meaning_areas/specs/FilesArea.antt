@@ -1,5 +1,5 @@
 -- What the area Files stands for, and what file commands write into it.
-use Rattle.std.specs.Prelude.{ℕ, List, [], ◌∷◌, ◌++◌, Option, Some, None, Result, Ok, Err}
+use Rattle.std.specs.Prelude.{ℕ, List, [], ◌∷◌, Option, Some, None, Result, Ok, Err}
 use Rattle.std.specs.FinMap as map
 use Rattle.dl_base.specs.declared.answer.FileRefusal.{FileRefusal}
 use Rattle.dl_base.specs.declared.file.FileChange.{FileChange}
@@ -10,7 +10,7 @@ use Rattle.dl_codec.specs.declared.files.FilesRecord.{FilesRecord}
 use Rattle.dl_codec.specs.declared.files.FilesRecord.TheVariants as records
 use Rattle.dl_journal.specs.Records as journal
 use Rattle.meaning_areas.specs.Folds.{folded}
-use Rattle.meaning_files.specs.Commands.{refusal, command_changes, file_command}
+use Rattle.meaning_files.specs.Commands.{refusal, command_changes}
 use Rattle.meaning_files.specs.Files.{Files, with_changes}
 
 abbrev pub with_record : Files → Option FilesRecord → Option Files
@@ -48,8 +48,3 @@ accepted_writes None bodies = bodies
 -- the bodies that a command writes which no link forbids
 abbrev pub writes : Files → FileCmd → List (List ℕ)
 writes files cmd = accepted_writes (refusal files cmd) (user_records (command_changes files cmd.user cmd.what))
-
--- the bodies that some steps write, one after the other
-abbrev pub written : Files → List FileCmd → List (List ℕ)
-written files [] = []
-written files (c ∷ cs) = writes files c ++ written (file_command files c).1 cs

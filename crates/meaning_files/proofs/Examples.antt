@@ -1,5 +1,5 @@
 -- Small files and commands on them: what the definitions make of them.
-use Rattle.std.proofs.Common.{◌≡◌, ℕ, true, false, Bool, List, [], ◌∷◌, length, codes, Some, None, refl, sym, ◌∙◌}
+use Rattle.std.proofs.Common.{◌≡◌, ℕ, true, false, Bool, List, [], ◌∷◌, length, codes, Option, Some, None, refl, sym, ◌∙◌}
 use Rattle.std.specs.Cmp.Lexicographic.{slice_cmp, nat_list_cmp_total}
 use Rattle.std.specs.FinMap as map
 use Rattle.std.specs.Ordering.{nat_cmp}
@@ -16,7 +16,7 @@ use Rattle.dl_base.specs.declared.file.FileRow.{FileRow}
 use Rattle.dl_base.specs.declared.file.FileWhat.{FileWhat}
 use Rattle.dl_base.specs.declared.file.FileWhat.TheVariants as whats
 use Rattle.dl_base.specs.declared.value.LinkNo.{LinkNo}
-use Rattle.meaning_files.specs.Commands.{if_exists, too_many, refusal_of, file_command}
+use Rattle.meaning_files.specs.Commands.{if_exists, too_many, refusal_of, refusal, command_answer, changed}
 use Rattle.meaning_files.specs.Files.{Files, with_owner}
 
 abbrev pub ann : List ℕ
@@ -34,6 +34,15 @@ asks user what = record { user = user; what = what }
 
 abbrev refused : FileRefusal → Answer
 refused why = answers.Refused (reasons.File why)
+
+-- a command that no link forbids: its answer, and the files after it
+
+abbrev judged : Option FileRefusal → Answer × Files → Files → Answer × Files
+judged (Some why) done files = (refused why, files)
+judged None done files = done
+
+abbrev file_command : Files → FileCmd → Answer × Files
+file_command files cmd = judged (refusal files cmd) (command_answer files cmd.what, changed files cmd) files
 
 abbrev no_files : Files
 no_files = map.empty

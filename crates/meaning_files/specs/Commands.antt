@@ -8,7 +8,6 @@ use Rattle.dl_base.specs.declared.answer.Answer.TheVariants as answers
 use Rattle.dl_base.specs.declared.answer.FileRefusal.{FileRefusal}
 use Rattle.dl_base.specs.declared.answer.FileRefusal.TheVariants as refusals
 use Rattle.dl_base.specs.declared.answer.Limit.TheVariants as limits
-use Rattle.dl_base.specs.declared.answer.Refusal.TheVariants as reasons
 use Rattle.dl_base.specs.declared.answer.Why.{Why}
 use Rattle.dl_base.specs.declared.file.File.{File}
 use Rattle.dl_base.specs.declared.file.FileChange.{FileChange}
@@ -105,11 +104,3 @@ command_answer files (whats.Rename path to) = answers.Done
 command_answer files (whats.Chmod path on) = answers.Done
 command_answer files (whats.Read path token) = bytes_of (maps.get files path)
 command_answer files whats.List = answers.Files (rows_of files)
-
--- A FILE COMMAND that no link forbids: its answer, and the files after it
-abbrev pub judged : Option FileRefusal → Answer × Files → Files → Answer × Files
-judged (Some why) done files = (answers.Refused (reasons.File why), files)
-judged None done files = done
-
-abbrev pub file_command : Files → FileCmd → Answer × Files
-file_command files cmd = judged (refusal files cmd) (command_answer files cmd.what, changed files cmd) files

@@ -18,7 +18,7 @@ pub fn a_part_and_then_all_is_all()
     ensures { (m : Moved) (copies : List ℕ → Bool) (files held : Bool) (k later : Kept) → IsReady m k → IsPart copies files held m k later → settle_one m later ≡ settle_one m k }
 {}
 
-/// Settling a second time changes nothing.
+/// Settling a second time changes nothing, where each link with RECOVERY YES that is given has a copy or a file.
 pub fn settling_again_changes_nothing()
     ensures { (m : Moved) (k : Kept) → IsReady m k → settle_one m (settle_one m k) ≡ settle_one m k }
 {}

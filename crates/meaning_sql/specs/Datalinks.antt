@@ -1,6 +1,7 @@
 -- What DLVALUE makes, and what the accessors of a datalink show.
 use Rattle.std.specs.Prelude.{ℕ, Bool, true, false, List, [], length, codes, nat_le, Option, Some, None, Result, Ok, Err, if◌then◌else◌}
 use Rattle.std.specs.Str.{str_eq_ignore_ascii_case}
+use Rattle.dl_base.specs.Limits.{most_comment_bytes}
 use Rattle.dl_base.specs.declared.sql_fault.SqlFault.{SqlFault}
 use Rattle.dl_base.specs.declared.sql_fault.SqlFault.TheVariants as faults
 use Rattle.dl_base.specs.declared.sql_fault.BadLink.{BadLink}
@@ -37,7 +38,7 @@ comment_text (values.Link d) = []
 abbrev pub linked : Result (List ℕ × List ℕ) BadLink → Bool → List ℕ → Result Value SqlFault
 linked (Err why) url comment = Err (faults.BadLink why)
 linked (Ok kept) false comment = Err (faults.BadLink bad.LinkType)
-linked (Ok kept) true comment = if nat_le (length comment) 200 then Ok (values.Link (record { location = kept.0; path = kept.1; comment = comment; link = None })) else Err (faults.BadLink bad.Comment)
+linked (Ok kept) true comment = if nat_le (length comment) most_comment_bytes then Ok (values.Link (record { location = kept.0; path = kept.1; comment = comment; link = None })) else Err (faults.BadLink bad.Comment)
 
 -- DLVALUE of a location, a link type and a comment: NULL where the location is, whatever the others are
 unfoldable pub datalink : List ℕ → Value → Value → Value → Result Value SqlFault

@@ -28,7 +28,8 @@ pub enum AggregateScope {
     Row,
     /// Columns and aggregates, as in an item.
     Item,
-    /// Aggregates, and outside of them only the columns at these places from 0, as in an item with GROUP BY.
+    /// Aggregates, and outside of them only the columns at these places from 0, as in an item of a query that groups: by GROUP BY, or
+    /// because an item has an aggregate, where there are no places.
     Grouped(List<usize>),
 }
 

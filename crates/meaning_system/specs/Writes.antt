@@ -137,10 +137,6 @@ writes s (steps.Decide session) = session_writes s (steps.Decide session) (step 
 writes s (steps.Finish session) = session_writes s (steps.Finish session) (step s (steps.Finish session)).0 (txn_of s session)
 writes s (steps.Rollback session) = session_writes s (steps.Rollback session) (step s (steps.Rollback session)).0 (txn_of s session)
 
-abbrev pub written_by : State → List Step → List Written
-written_by s [] = []
-written_by s (x ∷ xs) = writes s x ++ written_by (step s x).1 xs
-
 -- THE RECORDS OF AN OPENING over lists that stand for something
 abbrev pub open_writes : Folds → ℕ → Option Branch → List Written
 open_writes f tx None = []

@@ -1,4 +1,4 @@
--- The language: statements, and what says them, production by production. Read Lang first: with Forms, Levels, Words, Reserved and Bounds it is the whole grammar.
+-- The language: statements, and what says them, production by production. Read Lang first: with Forms, Levels, Words, Reserved and Proper, and the two bounds in Limits of dl_base, it is the whole grammar.
 use Rattle.std.specs.Prelude.{ℕ, ℤ, List, [], ◌∷◌, Option, Some, None, Bool, true, false, map}
 use Rattle.std.specs.List.{count_by}
 use Rattle.dl_base.specs.declared.column.ReadBy.{ReadBy}

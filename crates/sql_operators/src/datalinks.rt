@@ -3,6 +3,7 @@ ghost use Rattle.std.specs.Prelude.{◌≡◌, Ok};
 ghost use Rattle.meaning_sql.specs.Datalinks as meaning;
 ghost use Rattle.meaning_sql.specs.Faults.{Computes};
 
+use dl_base::limits::MOST_COMMENT_BYTES;
 use dl_base::{BadLink, Dl, LinkNo, Name, Options, Part, Path, ReadBy, SqlFault, Text, Value};
 use dl_location::{Accessor, LocationFault, accessor_text, read_location};
 use dl_token::{expiry_after, token, with_token};
@@ -47,7 +48,7 @@ fn linked(
         return Err(SqlFault::BadLink(BadLink::LinkType));
     }
     let comment = comment_text(comment);
-    if comment.len() > 200 {
+    if comment.len() > MOST_COMMENT_BYTES {
         return Err(SqlFault::BadLink(BadLink::Comment));
     }
     Ok(Value::Link(Dl {
