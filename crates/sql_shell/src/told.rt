@@ -1,5 +1,5 @@
 // What is told of a line.
-ghost use Rattle.std.specs.Prelude.{◌≡◌, [], IfOk, Ok, Err};
+ghost use Rattle.std.specs.Prelude.{◌≡◌, [], IfOk, OnErr, Ok, Err};
 ghost use Rattle.meaning_script.specs.Printed.{line_text};
 ghost use Rattle.meaning_sql.specs.declared.Context.{Context as ContextMeant};
 ghost use Rattle.meaning_tables.specs.Fits.{RowsFit};
@@ -29,8 +29,10 @@ pub fn context(alloc: Global) -> Result<Context, Memory>
     })
 }
 
+// The answer of what is no statement. It takes no memory: the error is that of its reading.
 fn answer_of_fault(fault: ParseFault) -> Result<Answer, Memory>
-    ensures { IfOk result (λ answer. (tables : TablesMeant) (context : ContextMeant) → IsAnswer tables context (Err fault) answer tables) }
+    ensures answer { IfOk result (λ answer. (tables : TablesMeant) (context : ContextMeant) → IsAnswer tables context (Err fault) answer tables) }
+    ensures memory { OnErr result (fault ≡ ParseFault.Memory) }
 {
     match fault {
         ParseFault::BadChar(place) => Ok(Answer::Refused(Refusal::BadLine(place))),

@@ -1,6 +1,7 @@
 // One table.
 ghost use Rattle.std.specs.Prelude.{◌≡◌, ◌<◌, None, Some, Ok, IfOk, OnOk, OnErr, length, slice_get, MatchOption, is_some, ◌+◌, ◌++◌, ◌∷◌, [], drop};
 ghost use Rattle.std.specs.Option.{option_copied, option_map};
+ghost use Rattle.std.specs.Result.{result_err};
 ghost use Rattle.dl_base.specs.Limits.{most_rows, row_numbers};
 ghost use Rattle.dl_pages.specs.Orders.{link_order};
 ghost use Rattle.meaning_tables.specs.First.{first_number, has_key, has_link};
@@ -557,9 +558,10 @@ fn without(
     joined(dropped(alloc, rows, place, number), indexes)
 }
 
-// Rows and their indexes.
+// Rows and their indexes. It takes no memory: the error is that of the rows.
 fn joined(rows: Result<Pages<Numbered>, Memory>, indexes: Indexes) -> Result<Parts, Memory>
-    ensures { IfOk result (λ made. (rows ≡ Ok made.0) × (indexes ≡ (made.1, made.2))) }
+    ensures made { IfOk result (λ made. (rows ≡ Ok made.0) × (indexes ≡ (made.1, made.2))) }
+    ensures memory { result_err result ≡ result_err rows }
 {
     match rows {
         Ok(rows) => {

@@ -10,4 +10,4 @@ pub returns-in-Ok-clause-kept : goal.returns-in-Ok-clause-kept
 returns-in-Ok-clause-kept c =
     IfOk-weaker c.joined.result _ _ (λ made is. kept_joined c.args.columns.now c.args.next c.placed.result c.in-Ok.indexes made.0 made.1 made.2 is (IfOk-weaker c.placed.result _ _ (λ rows e.
     kept_placed c.args.columns.now c.args.next c.args.number c.args.rows.now rows c.args.links.now c.in-Ok.indexes.0 c.args.keys.now c.in-Ok.indexes.1 c.args.row (link_marks c.args.columns.now c.args.row) (key_marks c.args.columns.now c.args.row)
-    c.requires.kept c.requires.below c.requires.new refl c.in-Ok.ensures.links refl c.in-Ok.ensures.keys e) c.placed.ensures)) c.joined.ensures
+    c.requires.kept c.requires.below c.requires.new refl c.in-Ok.ensures.links refl c.in-Ok.ensures.keys e) c.placed.ensures)) c.joined.ensures.made
