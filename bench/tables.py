@@ -1,6 +1,6 @@
 #!/usr/bin/env python3
 """Makes the tables among the scripts of bench/scripts/: each case of two or three lists by each other, with what is told of it by
-bench/model.py, which knows nothing of the program. Four of them stand also in the stored run of the program
+bench/model.py, which knows nothing of the program. Five of them stand also in the stored run of the program
 (crates/datalinks_main/stdin, stdout), behind what is written there by hand, so that the gate runs them.
 
     bench/tables.py            # makes them again, and tells which changed
@@ -341,6 +341,27 @@ def restores(script, under=UNARCHIVED + ARCHIVED):
     script.add("A: DROP TABLE n")
 
 
+# ---- more tables than one transaction can make
+
+def many_tables(script, sessions, each):
+    script.note("Sessions beside each other make more tables than the bound lets one make; they are backed up, and taken away.")
+    before = script.folder.commits
+    script.add(*(f"{name}: BEGIN" for name in sessions))
+    for name in sessions:
+        script.add(*(f"{name}: CREATE TABLE {name.lower()}{i} (x INTEGER)" for i in range(1, each + 1)))
+    script.add(f"{name}: INSERT INTO {name.lower()}{each} VALUES (7)", *(f"{name}: COMMIT" for name in sessions))
+    script.add("! backup", f"! restore commit {before}", f"{name}: SELECT x FROM {name.lower()}{each}")
+
+
+def many_restored(script, sessions, each):
+    script.note("A restore brings them back as one commit, and again from a backup of what it brought; only CREATE TABLE is refused.")
+    first, last = f"{sessions[0].lower()}1", f"{sessions[-1].lower()}{each}"
+    backups, commits = len(script.folder.backups), script.folder.commits
+    script.add(f"! restore backup {backups}", f"A: SELECT x FROM {last}", "! backup", "A: CREATE TABLE d (x INTEGER)", f"A: INSERT INTO {first} VALUES (1)")
+    script.add(f"! restore backup {backups + 1}", f"A: SELECT x FROM {first}", f"A: SELECT x FROM {last}", f"A: DROP TABLE {first}", f"A: SELECT x FROM {first}")
+    script.add(f"! restore commit {commits - 2}", f"A: SELECT x FROM {first}", f"A: SELECT x FROM {last}", f"! restore commit {commits}", f"A: SELECT x FROM {first}")
+
+
 # ---- all of them
 
 TABLES = {
@@ -405,6 +426,8 @@ def stored_run():
     script.add(*(f"A: DROP TABLE {held.name}" for held in list(script.folder.tables)))
     copies(script)
     restores(script, (UNARCHIVED[1], ARCHIVED[2]))
+    many_tables(script, "AB", 129)
+    many_restored(script, "AB", 129)
     script.add("@ann create /film/2.mpg x")
     script.add(last)
     return "\n".join(script.lines), script.answers()
@@ -435,6 +458,12 @@ def main():
         changed |= put(SCRIPTS / f"{name}.told", script.answers(), is_check)
         if script.words != "run":
             changed |= put(SCRIPTS / f"{name}.words", script.words + "\n", is_check)
+    folder = Folder()
+    for number, (make, sessions) in enumerate(((many_tables, "ABC"), (many_restored, "ABC")), 1):
+        script = Script(folder=folder)
+        make(script, sessions, 200)
+        changed |= put(SCRIPTS / f"restore/more_tables_than_256.{number}.txt", script.text(), is_check)
+        changed |= put(SCRIPTS / f"restore/more_tables_than_256.{number}.told", script.answers(), is_check)
     stdin, stdout = stored_run()
     changed |= put(PROGRAM / "stdin", stdin, is_check)
     changed |= put(PROGRAM / "stdout", stdout, is_check)

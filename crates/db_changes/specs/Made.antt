@@ -1,5 +1,5 @@
 -- What the commit of a transaction makes of the committed tables: its record, and the same as handles; and what rows give without a scan.
-use Rattle.std.specs.Prelude.{◌≡◌, ◌≤◌, ◌∷◌, [], ℕ, Bool, List, Option, Some, None, if◌then◌else◌}
+use Rattle.std.specs.Prelude.{◌≡◌, ◌≤◌, ◌+◌, ◌*◌, ◌/◌, ◌∷◌, [], ℕ, Bool, List, Option, Some, None, if◌then◌else◌}
 use Rattle.std.specs.List.{flat_map}
 use Rattle.dl_base.specs.Limits.{most_tables}
 use Rattle.dl_base.specs.declared.value.Row.{Row}
@@ -16,12 +16,18 @@ use Rattle.db_changes.specs.Handles.{NewLast}
 use Rattle.db_replay.specs.Applying.{new_in}
 use Rattle.db_replay.specs.declared.changes.Change.{Change}
 
--- Of a commit: its transaction, whether that has a branch, the changes of its record, and handles of the tables that they make.
+-- Of a commit: its transaction, whether that has a branch, the changes of its record, handles of the tables that they make, and how many
+-- commits' room it takes.
 pub record Making : Type 0 where
   pub tx : ℕ
   pub branch : Bool
   pub changes : List TableChange
   pub handles : List Change
+  pub rooms : ℕ
+
+-- how many commits' room is enough for one that makes these tables: the room of a commit is for at most 256 new ones
+abbrev pub rooms_for : List Change → ℕ
+rooms_for handles = 1 + new_in handles / most_tables
 
 -- its record, as the commit of a number
 abbrev pub record_of : Making → ℕ → RowsRecord
@@ -32,8 +38,9 @@ pub record IsMade (m : Making) (bytes : List ℕ) (logged : List Change) : Type 
   pub body : bytes ≡ rows_record.spelling (record_of m 0)
   pub fits : rows_record.fits (record_of m 0)
   pub again : logged ≡ m.handles
-  -- there is room for its new tables where there is room for a commit, and they stand behind the other changes
-  pub few : new_in m.handles ≤ most_tables
+  -- there is room for its new tables where there is room for so many commits, and they stand behind the other changes
+  pub few : new_in m.handles ≤ m.rooms * most_tables
+  pub some : 1 ≤ m.rooms
   pub order : NewLast m.handles
 
 -- the changes of the commit that bytes are

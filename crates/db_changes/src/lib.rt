@@ -12,5 +12,5 @@ pub use laws::{
     a_copy_follows_its_base, handles_lead_to_merged_tables, no_handles_where_nothing_changed,
     nothing_touched_covers, touched_rows_cover_a_change,
 };
-pub use made::Made;
+pub use made::{Made, rooms_for};
 pub use touched::TouchedRows;

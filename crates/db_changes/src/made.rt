@@ -1,19 +1,20 @@
 // What the commit of a transaction makes of tables.
-ghost use Rattle.std.specs.Prelude.{◌≡◌, ◌==◌, ◌++◌, ◌≤◌, IfOk, drop, filter, length, take};
+ghost use Rattle.std.specs.Prelude.{◌≡◌, ◌==◌, ◌*◌, ◌++◌, ◌≤◌, IfOk, drop, filter, length, take};
 ghost use Rattle.std.specs.Int.{to_be_bytes, w64};
 ghost use Rattle.dl_base.specs.Limits.{most_tables};
 ghost use Rattle.dl_codec.specs.Rows.{rows_record};
 ghost use Rattle.dl_codec.specs.declared.rows.RowsRecord.TheVariants as records;
-ghost use Rattle.db_replay.specs.Applying.{new_in};
+ghost use Rattle.db_replay.specs.Applying.{new_by, new_in};
 ghost use Rattle.db_replay.specs.Changes.{all_at_version, at_version};
 ghost use Rattle.meaning_merge.specs.Merging.{commit_changes};
 ghost use Rattle.db_changes.specs.Handles.{NewLast, handles};
-ghost use Rattle.db_changes.specs.Made.{record_of};
+ghost use Rattle.db_changes.specs.Made.{record_of, rooms_for};
 ghost use Rattle.db_changes.specs.Touched.{Covers};
 
 use crate::TouchedRows;
 use crate::diff::{put_dropped, put_kept, put_new};
 use db_replay::Change;
+use dl_base::limits::MOST_TABLES;
 use dl_base::{Copied, List, Memory};
 use dl_codec::{RowsRecord, TableChange, put_rows_record, rows_records_have_one_spelling};
 use sql_table::Tables;
@@ -22,7 +23,7 @@ use std::marker::Model;
 
 /// What the commit of a transaction makes of tables, before it has a number: the body of its record, and handles of its tables,
 /// which share what they have with the tables that they were made of. Contracts see the transaction, whether it has a branch, the
-/// changes of the record, and the handles.
+/// changes of the record, the handles, and how many commits' room it takes: that of a commit is for at most 256 new tables.
 #[derive(Drop)]
 pub struct Made {
     tx: u64,
@@ -31,6 +32,8 @@ pub struct Made {
     body: List<u8>,
     handles: List<Change>,
     again: List<Change>,
+    // contracts alone look at it
+    rooms: usize,
 }
 
 impl Model for Made {
@@ -38,17 +41,18 @@ impl Model for Made {
 
     ghost Value = { Making };
 
-    ghost view = { λ m. record { tx = m.tx; branch = m.branch; changes = changes_in m.body; handles = m.handles } };
+    ghost view = { λ m. record { tx = m.tx; branch = m.branch; changes = changes_in m.body; handles = m.handles; rooms = m.rooms } };
 
     ghost use Rattle.db_changes.specs.Made.{IsMade};
 
-    ghost invariant = { λ m. IsMade (record { tx = m.tx; branch = m.branch; changes = changes_in m.body; handles = m.handles }) m.body m.again };
+    ghost invariant = { λ m. IsMade (record { tx = m.tx; branch = m.branch; changes = changes_in m.body; handles = m.handles; rooms = m.rooms }) m.body m.again };
 }
 
 impl Made {
     /// What a transaction has made of the tables of its base: its copy, in which beside new and dropped tables only touched rows
-    /// differ, and at most 256 tables are new. The error is want of memory. The cost is n log n in the number of tables, and grows
-    /// with the touched rows, times the logarithm of the rows of their tables, and with the rows of new tables.
+    /// differ, and at most 256 tables are new: it takes the room of one commit. The error is want of memory. The cost is n log n in the
+    /// number of tables, and grows with the touched rows, times the logarithm of the rows of their tables, and with the rows of new
+    /// tables.
     #[tactic(auto, using(crate::proofs::Counting::few_new, crate::proofs::Counting::order_new, crate::proofs::Gathered::made_as))]
     pub fn new(
         alloc: Global,
@@ -60,14 +64,15 @@ impl Made {
     ) -> Result<Made, Memory>
         requires covers { Covers touched.now base.now copy.now }
         requires few { length (filter (λ t. t.1.version == 0) copy.now) ≤ most_tables }
-        ensures { IfOk result (λ made. made ≡ record { tx = tx; branch = branch; changes = commit_changes base.now copy.now; handles = handles base.now copy.now }) }
+        ensures { IfOk result (λ made. made ≡ record { tx = tx; branch = branch; changes = commit_changes base.now copy.now; handles = handles base.now copy.now; rooms = 1 }) }
     {
         let (changes, handles) = differences(alloc, base, copy, touched)?;
-        Made::of(alloc, tx, branch, changes, handles)
+        Made::with_rooms(alloc, tx, branch, changes, handles, 1)
     }
 
-    /// The commit of a record's changes, and of handles of the tables that they make: at most 256 of these are new, and stand behind
-    /// all other handles. The error is want of memory. The cost grows with the bytes of the record and with the number of handles.
+    /// The commit of a record's changes, and of handles of the tables that they make, of which the new ones stand behind all others; it
+    /// takes the room of as many commits as `rooms_for` tells. The error is want of memory. The cost grows with the bytes of the record
+    /// and with the number of handles.
     pub fn of(
         alloc: Global,
         tx: u64,
@@ -75,9 +80,26 @@ impl Made {
         changes: List<TableChange>,
         handles: List<Change>,
     ) -> Result<Made, Memory>
-        requires few { new_in handles ≤ most_tables }
+        requires { NewLast handles }
+        ensures { IfOk result (λ made. made ≡ record { tx = tx; branch = branch; changes = changes; handles = handles; rooms = rooms_for handles }) }
+    {
+        let rooms = rooms_for(&handles);
+        Made::with_rooms(alloc, tx, branch, changes, handles, rooms)
+    }
+
+    // The commit of a record's changes and of these handles, which takes the room of so many commits.
+    fn with_rooms(
+        alloc: Global,
+        tx: u64,
+        branch: bool,
+        changes: List<TableChange>,
+        handles: List<Change>,
+        rooms: usize,
+    ) -> Result<Made, Memory>
+        requires few { new_in handles ≤ rooms * most_tables }
+        requires some { 1 ≤ rooms }
         requires order { NewLast handles }
-        ensures { IfOk result (λ made. made ≡ record { tx = tx; branch = branch; changes = changes; handles = handles }) }
+        ensures { IfOk result (λ made. made ≡ record { tx = tx; branch = branch; changes = changes; handles = handles; rooms = rooms }) }
     {
         rows_records_have_one_spelling();
         let body = body_of(alloc, tx, branch, changes)?;
@@ -88,6 +110,7 @@ impl Made {
             body,
             handles,
             again,
+            rooms,
         })
     }
 
@@ -120,8 +143,9 @@ impl Made {
         ensures handles { result.1 ≡ all_at_version number self.handles }
         ensures again { result.2 ≡ all_at_version number self.handles }
 
-        // At most 256 of its tables are new, and stand behind all others.
-        ensures few { new_in self.handles ≤ most_tables }
+        // There is room for its new tables where there is room for so many commits, and they stand behind all others.
+        ensures few { new_in self.handles ≤ self.rooms * most_tables }
+        ensures some { 1 ≤ self.rooms }
         ensures order { NewLast self.handles }
     {
         let Made {
@@ -135,6 +159,29 @@ impl Made {
             with_version(handles, number),
             with_version(again, number),
         )
+    }
+}
+
+/// How many commits' room is enough for a commit that makes these tables: one, and one more for each 256 of them that are new. It takes
+/// no memory, and costs a look at each.
+pub fn rooms_for(handles: &List<Change>) -> usize
+    ensures { result ≡ rooms_for handles.now }
+{
+    let mut made = 0_usize;
+    for change in handles.as_slice() {
+        made += tables_made(change);
+    }
+    made / MOST_TABLES + 1
+}
+
+// How many tables a change makes that were not there.
+fn tables_made(change: &Change) -> usize
+    ensures { result ≡ new_by change.now }
+{
+    match change {
+        Change::Dropped(_) => 0,
+        Change::Kept(_, _) => 0,
+        Change::New(_, _) => 1,
     }
 }
 

@@ -1,7 +1,6 @@
 -- What the fold asks of the commit of what a transaction has made.
 use Rattle.std.proofs.Common.{◌≡◌, ℕ, ◌+◌, ◌/◌, ◌≤◌, ◌^◌, ◌==◌, ◌&&◌, Bool, true, false, cond, List, [], ◌∷◌, ◌++◌, length, Option, Some, None, is_none, refl, sym, ap, subst, ◌∙◌, arith}
 use Rattle.std.proofs.lemmas.Bool.{and_parts}
-use Rattle.dl_base.specs.Limits.{most_tables}
 use Rattle.meaning_areas.specs.Commits.{Commit, Commits, commit_of, commit_to, fitting, tables_after, with_commit, with_table_changes}
 use Rattle.meaning_merge.specs.Merging.{AreNamed}
 use Rattle.meaning_tables.specs.Fits.{fits}
@@ -95,8 +94,8 @@ module _ (r : Commits) (m : Making) where
       pub handles_new : all_new [] es ≡ true → NewLast m.handles → are_new was hs ≡ true
       handles_new all order = ap (λ (cs : List Change). are_new was cs) hs-is ∙ ap (λ (ts : Tables). are_new ts hands) was-is ∙ taken_new es (sym same) all order taken
 
-      pub handles_few : new_in m.handles ≤ most_tables → new_in hs ≤ most_tables
-      handles_few few = let more = ap new_in made ∙ version-count (n + 1) m.handles in omega (arith, few, more)
+      pub handles_few : (most : ℕ) → new_in m.handles ≤ most → new_in hs ≤ most
+      handles_few most few = let more = ap new_in made ∙ version-count (n + 1) m.handles in omega (arith, few, more)
 
       leads : applied was hs ≡ applied_with r m
       leads = ap (λ (cs : List Change). applied was cs) hs-is ∙ ap (λ (ts : Tables). applied ts hands) was-is

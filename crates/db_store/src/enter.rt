@@ -1,5 +1,5 @@
 // One more commit in memory: in the log, and in tables with room for more; and that room.
-ghost use Rattle.std.specs.Prelude.{◌≡◌, ◌+◌, ◌*◌, ◌/◌, ◌^◌, ◌<◌, ◌≤◌, ◌++◌, ◌∷◌, [], IsTrue, None, OnOk, length, min};
+ghost use Rattle.std.specs.Prelude.{◌≡◌, ◌+◌, ◌*◌, ◌^◌, ◌≤◌, ◌++◌, ◌∷◌, [], IsTrue, None, OnOk, length};
 ghost use Rattle.dl_base.specs.Limits.{most_tables};
 ghost use Rattle.db_replay.specs.Applying.{AreNew, is_new, new_by, new_in};
 ghost use Rattle.db_replay.specs.Changes.{apply, applied};
@@ -13,8 +13,7 @@ use dl_base::limits::MOST_TABLES;
 use dl_base::{List, Memory};
 use sql_table::RoomyTables;
 
-/// Puts a commit at the end of the log, and what it made into the tables, where there is room for a commit of at most 256 new
-/// tables. It takes no memory.
+/// Puts a commit at the end of the log, and what it made into the tables, where there is room for both. It takes no memory.
 pub fn enter(
     tables: &mut RoomyTables,
     log: &mut Log,
@@ -28,12 +27,13 @@ pub fn enter(
     requires all { AllNew log.old.entries }
     requires new { AreNew tables.old.tables changes }
     requires none { commit_of tx (commits_from [] log.old.entries) ≡ None }
-    requires few { new_in changes ≤ most_tables }
-    requires room { 0 < min log.old.spare (tables.old.spare / most_tables) }
+    requires room_tables { new_in changes ≤ tables.old.spare }
+    requires room_log { 1 ≤ log.old.spare }
     ensures commits { commits_from [] log.new.entries ≡ commits_from [] log.old.entries ++ commit_to (commits_from [] log.old.entries) tx branch (applied tables.old.tables changes) ∷ [] }
     ensures at { tables.new.tables ≡ tables_after [] (commits_from [] log.new.entries) }
     ensures all { AllNew log.new.entries }
-    ensures spare { min log.old.spare (tables.old.spare / most_tables) ≤ min log.new.spare (tables.new.spare / most_tables) + 1 }
+    ensures spare_tables { tables.old.spare ≤ tables.new.spare + new_in changes }
+    ensures spare_log { log.old.spare ≤ log.new.spare + 1 }
 {
     apply_all(tables, changes);
     let entry = Entry {

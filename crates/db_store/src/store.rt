@@ -226,18 +226,18 @@ impl Store {
         self.ended.has(tx)
     }
 
-    /// Writes the commit of what a transaction has made, and returns its number, from 1. There has to be room for it, and its record
-    /// leads from the committed tables to those with its handles put in; where these are of what a copy makes of its base, they
-    /// are the merged ones, as `handles_lead_to_merged_tables` says. The errors are `Full(Area)` where the area has no room for the
-    /// record, and `Device`, after which the area is to be opened again. It takes no memory, and costs its touched rows as bytes,
-    /// and its tables.
+    /// Writes the commit of what a transaction has made, and returns its number, from 1. There has to be room for as many commits as it
+    /// takes the room of, and its record leads from the committed tables to those with its handles put in; where these are of what a copy
+    /// makes of its base, they are the merged ones, as `handles_lead_to_merged_tables` says. The errors are `Full(Area)` where the area
+    /// has no room for the record, and `Device`, after which the area is to be opened again. It takes no memory, and costs its touched
+    /// rows as bytes, and its tables.
     pub fn commit<B: Bench>(&mut self, bench: &mut B, made: Made) -> Result<u64, AppendFault>
         requires ready { IsOpen (extent self.old) (B.outside bench.old) }
-        requires room { 1 ≤ self.old.spare }
+        requires room { made.rooms ≤ self.old.spare }
         requires taken { IsTaken self.old.rows made }
         ensures value { IfOk result (λ number. number ≡ length self.old.rows.commits + 1) }
         ensures rows { OnOk result (self.new.rows ≡ committed_with self.old.rows made) }
-        ensures spare { OnOk result (self.old.spare ≤ self.new.spare + 1) }
+        ensures spare { OnOk result (self.old.spare ≤ self.new.spare + made.rooms) }
         ensures same { OnOk result ((self.new.drawn ≡ self.old.drawn) × (self.new.limit ≡ self.old.limit)) }
         ensures err { OnErr result (self.new ≡ self.old) }
         ensures does { DoesAlone (extent self.old) (extent self.new) (commit_write self.old.rows made ∷ []) (result_err result) (B.outside bench.old) (B.outside bench.new) }
@@ -279,8 +279,8 @@ impl Store {
         }
     }
 
-    /// Makes room for so many more commits, of at most 256 new tables each, and for the ends of their branches; want of memory leaves
-    /// what room there was.
+    /// Makes room for so many more commits, of at most 256 new tables each, and for the ends of their branches; want of memory, which
+    /// more than 2^32 commits count as, leaves what room there was.
     pub fn make_room(&mut self, commits: u64) -> Result<(), Memory>
         ensures same { self.new ≡ record self.old { spare = self.new.spare } }
         ensures room { OnOk result (commits ≤ self.new.spare) }

@@ -84,4 +84,4 @@ with_made t made = record { session = t.session; tx = t.tx; base = t.base; copy 
 
 -- the commit of what it has made of its base
 abbrev pub made_of : Transaction → Making
-made_of t = record { tx = unwrap_or t.tx 0; branch = has_branch t.base t.copy; changes = commit_changes t.base t.copy; handles = handles t.base t.copy }
+made_of t = record { tx = unwrap_or t.tx 0; branch = has_branch t.base t.copy; changes = commit_changes t.base t.copy; handles = handles t.base t.copy; rooms = 1 }

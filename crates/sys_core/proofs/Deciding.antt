@@ -362,6 +362,6 @@ pub pieces-branch : (s : State) (tx : ℕ) (t : Txn) (p : Option Pieces) → Has
 pieces-branch s tx t None has = sym has
 pieces-branch s tx t (Some p) has = sym has.0
 
--- there is room for a commit
-pub room-for-one : (a spare : ℕ) → a + 1 ≤ spare → 1 ≤ spare
-room-for-one a spare le = omega (arith, le)
+-- there is room for so many commits
+pub room-for : (a rooms spare : ℕ) → a + rooms ≤ spare → rooms ≤ spare
+room-for a rooms spare le = omega (arith, le)

@@ -8,7 +8,7 @@ use Rattle.bk_restore.specs.Planning.{HasOwned, IsPlanned}
 use Rattle.bk_restore.specs.declared.planning.Planned.TheVariants as planned
 use Rattle.bk_restore.specs.declared.planning.RestorePlan.{RestorePlan}
 use Rattle.db_changes.specs.Handles.{NewLast}
-use Rattle.db_changes.specs.Made.{Making}
+use Rattle.db_changes.specs.Made.{Making, rooms_for}
 use Rattle.db_replay.specs.Changes.{all_at_version, applied}
 use Rattle.db_store.specs.Store.{CanEnd, Database, IsTaken, applied_with, committed_with, drawn_next}
 use Rattle.dl_areas.proofs.Appending.{does-exhausted}
@@ -62,7 +62,7 @@ use Rattle.meaning_tables.specs.Tables.{Tables}
 use Rattle.sys_core.proofs.Beginning.{draw-left, next-is}
 use Rattle.sys_core.proofs.Behind.{EachLeads}
 use Rattle.sys_core.proofs.Commanding.{seated-same}
-use Rattle.sys_core.proofs.Deciding.{room-for-one}
+use Rattle.sys_core.proofs.Deciding.{room-for}
 use Rattle.sys_core.proofs.Refused.{IsRefused}
 use Rattle.sys_core.proofs.Roomy.{room-state}
 use Rattle.sys_core.proofs.Seating.{PiecesStay}
@@ -302,7 +302,7 @@ module _ (laws : Laws) (first : ℕ) (w : Engine) (s : State) (t : Target) (p : 
     left-here = subst (λ (n : ℕ). draw_full (n + 1) ≡ None) can.state.drawn left
 
     -- it can be written
-    pub can-write : 1 ≤ w.owners.store.spare → CanWrite w.owners q
+    pub can-write : rooms_for p.handles ≤ w.owners.store.spare → CanWrite w.owners q
     can-write room = subst (λ (x : Restoration). CanWrite w.owners x) same (record {
       commit = commit-taken;
       room = room;
@@ -338,8 +338,8 @@ module _ (laws : Laws) (first : ℕ) (w : Engine) (s : State) (t : Target) (p : 
       is-behind = ap (λ (x : Answer × State). x.1) (restored-step s t p can.idle can.plan)
 
       -- THE ENGINE IS IN THE STATE BEHIND IT
-      module _ (folds : folds_on (Some f) (restore_part f q.made (moved_in q)) ≡ Some (folds_in v)) (drawn : v.store.drawn ≡ w.owners.store.drawn + 1) (spare : w.owners.store.spare ≤ v.store.spare + 1)
-          (copies : w.owners.manager.archive.spare ≤ v.manager.archive.spare + length q.gives) (room_commits : all_of votes_of w.seats + 1 ≤ w.owners.store.spare) (room_copies : all_of gives_of w.seats + length p.gives ≤ w.owners.manager.archive.spare) where
+      module _ (folds : folds_on (Some f) (restore_part f q.made (moved_in q)) ≡ Some (folds_in v)) (drawn : v.store.drawn ≡ w.owners.store.drawn + 1) (spare : w.owners.store.spare ≤ v.store.spare + q.made.rooms)
+          (copies : w.owners.manager.archive.spare ≤ v.manager.archive.spare + length q.gives) (room_commits : all_of votes_of w.seats + rooms_for p.handles ≤ w.owners.store.spare) (room_copies : all_of gives_of w.seats + length p.gives ≤ w.owners.manager.archive.spare) where
         sound : AreSound first (folds_in v) behind
         sound =
             subst (λ (g : Folds). AreSound first g behind) (some_same leads.0 (folds_in v) (sym leads.1 ∙ ap (folds_on (Some f)) put-writes ∙ folds))
@@ -360,14 +360,11 @@ module _ (laws : Laws) (first : ℕ) (w : Engine) (s : State) (t : Target) (p : 
           claims = subst (λ (x : State). AreClaims w.claims.claims x) is-behind (laws.claims w.claims.claims s t can.state.claims);
           seats = seated-same s behind w.seats refl keeps can.state.seats;
           room = record {
-            commits = fewer (all_of votes_of w.seats) w.owners.store.spare v.store.spare room_commits spare;
+            commits = within (all_of votes_of w.seats) (rooms_for p.handles) q.made.rooms w.owners.store.spare v.store.spare room_commits (ap (λ (m : Making). m.rooms) made.made) spare;
             copies = within (all_of gives_of w.seats) (length p.gives) (length q.gives) w.owners.manager.archive.spare v.manager.archive.spare room_copies (ap length made.gives) copies;
           };
         }
           where
-            fewer : (a b c : ℕ) → a + 1 ≤ b → b ≤ c + 1 → a ≤ c
-            fewer a b c x y = omega (arith, x, y)
-
             within : (a l m b c : ℕ) → a + l ≤ b → m ≡ l → b ≤ c + m → a ≤ c
             within a l m b c x e y = omega (arith, x, e, y)
 
@@ -394,7 +391,7 @@ pub can-roomy : (first : ℕ) (w : Engine) (s : State) (t : Target) (p : Restore
 can-roomy first w s t p u more can = record { state = room-state first w s u more can.state; idle = can.idle; plan = can.plan }
 
 pub can-put-back : (first : ℕ) (w : Engine) (s : State) (t : Target) (p : RestorePlan) (u : Owned) (q : Restoration) (n : ℕ) → HaveMoreRoom w.owners u → CanRestore first w s t p → draw_full (w.owners.store.drawn + 1) ≡ None → n ≡ drawn_next w.owners.store
-    → IsMadeFor u n p q → all_of votes_of w.seats + 1 ≤ u.store.spare → all_of gives_of w.seats + length p.gives ≤ u.manager.archive.spare → CanPutBack first (record w { owners = u }) s t p q
+    → IsMadeFor u n p q → all_of votes_of w.seats + rooms_for p.handles ≤ u.store.spare → all_of gives_of w.seats + length p.gives ≤ u.manager.archive.spare → CanPutBack first (record w { owners = u }) s t p q
 can-put-back first w s t p u q n more can left number made commits copies = record {
   can = can-roomy first w s t p u more can;
   left = subst (λ (d : Database). draw_full (d.drawn + 1) ≡ None) (sym more.store) left;
@@ -442,11 +439,11 @@ module _ (first : ℕ) (w : Engine) (s : State) (t : Target) (p : RestorePlan) (
 -- HOW IT ENDS, by what the owners tell
 pub put-steps : (laws : Laws) (first : ℕ) (w : Engine) (s : State) (t : Target) (p : RestorePlan) (q : Restoration) (all : CanPutBack first w s t p q) (v : Owned) (o n : Outside) (r : Result Answer StepFault)
     → IfOk r (λ told. told ≡ answers.Restored (length w.owners.store.rows.commits + 1) q.lost) → OnOk r (folds_on (Some (folds_in w.owners)) (restore_part (folds_in w.owners) q.made (moved_in q)) ≡ Some (folds_in v))
-    → OnOk r (v.store.drawn ≡ w.owners.store.drawn + 1) → OnOk r (w.owners.store.spare ≤ v.store.spare + 1) → OnOk r (w.owners.manager.archive.spare ≤ v.manager.archive.spare + length q.gives)
+    → OnOk r (v.store.drawn ≡ w.owners.store.drawn + 1) → OnOk r (w.owners.store.spare ≤ v.store.spare + q.made.rooms) → OnOk r (w.owners.manager.archive.spare ≤ v.manager.archive.spare + length q.gives)
     → (r ≡ Err faults.Memory → v ≡ w.owners) → Ends (journals_of w.owners) (journals_of v) (as_writes (restore_part (folds_in w.owners) q.made (moved_in q))) (result_err r) o n
     → Steps first (steps.Restore t) s w (record w { owners = v }) r o n
 put-steps laws first w s t p q all v o n (Ok told) is folds drawn spare copies kept ends = put-done laws first w s t p all.can all.left q all.made v o n folds drawn spare copies all.commits all.copies told is ends
 put-steps laws first w s t p q all v o n (Err fault) is folds drawn spare copies kept ends = put-fault laws first w s t p all.can all.left q all.made v o n fault kept ends
 
 pub may-write : (laws : Laws) (first : ℕ) (w : Engine) (s : State) (t : Target) (p : RestorePlan) (q : Restoration) → CanPutBack first w s t p q → CanWrite w.owners q
-may-write laws first w s t p q all = can-write laws first w s t p all.can all.left q all.made (room-for-one (all_of votes_of w.seats) w.owners.store.spare all.commits)
+may-write laws first w s t p q all = can-write laws first w s t p all.can all.left q all.made (room-for (all_of votes_of w.seats) (rooms_for p.handles) w.owners.store.spare all.commits)

@@ -3,6 +3,7 @@ use Rattle.std.specs.Prelude.{◌≡◌, ◌≤◌, ◌+◌, ℕ, length, None}
 use Rattle.bk_restore.specs.Planning.{IsPlanned}
 use Rattle.bk_restore.specs.declared.planning.Planned.TheVariants as planned
 use Rattle.bk_restore.specs.declared.planning.RestorePlan.{RestorePlan}
+use Rattle.db_changes.specs.Made.{rooms_for}
 use Rattle.db_store.specs.Store.{drawn_next}
 use Rattle.dl_base.specs.declared.step.Target.{Target}
 use Rattle.meaning_areas.specs.Full.{draw_full}
@@ -25,5 +26,5 @@ pub record CanPutBack (first : ℕ) (w : Engine) (s : State) (t : Target) (p : R
   pub can : CanRestore first w s t p
   pub left : draw_full (w.owners.store.drawn + 1) ≡ None
   pub made : IsMadeFor w.owners (drawn_next w.owners.store) p r
-  pub commits : all_of votes_of w.seats + 1 ≤ w.owners.store.spare
+  pub commits : all_of votes_of w.seats + rooms_for p.handles ≤ w.owners.store.spare
   pub copies : all_of gives_of w.seats + length p.gives ≤ w.owners.manager.archive.spare

@@ -33,9 +33,9 @@ impl Engine {
     /// transaction that is prepared or decided; NoTarget; and InTheWay with the first path at which other bytes stand than the archived
     /// ones. The answer also has the cells that are lost: they link a file that is gone, with RECOVERY NO, and become NULL. The errors are
     /// `Full(Transactions)` where the opening has no number left, `Full(Area)` where an area has no room for the next record, and `Device`,
-    /// behind which the areas are to be opened again; and want of memory, also for tables that no record can have and where more than 256
-    /// are new, which leaves all as it was but for room. It costs a look for each row of the tables before and after, and the bytes of the
-    /// rows that differ and of the files that change.
+    /// behind which the areas are to be opened again; and want of memory, also for tables that no record can have, which leaves all as it
+    /// was but for room. It costs a look for each row of the tables before and after, and the bytes of the rows that differ and of the
+    /// files that change.
     pub fn restore<B: Bench>(
         &mut self,
         bench: &mut B,

@@ -3,7 +3,7 @@ use Rattle.std.specs.Prelude.{◌≡◌, ◌≤◌, ◌+◌, ◌++◌, ◌∷◌
 use Rattle.std.specs.FinMap as maps
 use Rattle.std.specs.List.{list_any}
 use Rattle.bk_restore.specs.declared.planning.RestorePlan.{RestorePlan}
-use Rattle.db_changes.specs.Made.{Making, record_of}
+use Rattle.db_changes.specs.Made.{Making, record_of, rooms_for}
 use Rattle.db_store.specs.Store.{CanEnd, IsTaken, committed_with}
 use Rattle.dl_base.specs.declared.value.LinkRow.{LinkRow}
 use Rattle.dl_codec.specs.Rows.{rows_record}
@@ -30,7 +30,7 @@ abbrev pub moved_by : RestorePlan → Moved
 moved_by p = moving p.gives p.takes p.fill
 
 abbrev pub making_by : ℕ → RestorePlan → Making
-making_by tx p = record { tx = tx; branch = has_links (moved_by p); changes = p.changes; handles = p.handles }
+making_by tx p = record { tx = tx; branch = has_links (moved_by p); changes = p.changes; handles = p.handles; rooms = rooms_for p.handles }
 
 -- what is made for one moves
 abbrev pub moved_in : Restoration → Moved
@@ -75,13 +75,13 @@ MaySettle m r tx gone (Some p) = CanSettle m r tx gone p
 -- ITS COMMIT CAN BE WRITTEN, and then its Finish
 pub record CanCommit (w : Owned) (r : Restoration) : Type 0 where
   pub commit : IsTaken w.store.rows r.made
-  pub room : 1 ≤ w.store.spare
+  pub room : r.made.rooms ≤ w.store.spare
   pub settle : MaySettle w.manager (committed_with w.store.rows r.made) r.made.tx (moved_in r) r.pieces
 
 -- ALL OF IT CAN BE WRITTEN: no branch has its number, and the folds take its records
 pub record CanWrite (w : Owned) (r : Restoration) : Type 0 where
   pub commit : IsTaken w.store.rows r.made
-  pub room : 1 ≤ w.store.spare
+  pub room : r.made.rooms ≤ w.store.spare
   pub left : draw_full (w.store.drawn + 1) ≡ None
   pub pieces : ArePieces w.manager r.made.tx (moved_in r) r.pieces
   pub fill : r.fill ≡ list_any (λ t. t.options.recovery) r.takes

@@ -1,11 +1,10 @@
 // A restore over the owners of the areas: what is made for it, and how it is written.
-ghost use Rattle.std.specs.Prelude.{◌≡◌, ◌≢◌, ◌⊎◌, ◌+◌, ◌^◌, ◌<◌, ◌≤◌, ℕ, Err, IfOk, None, OnErr, OnOk, Some, length, nat_le};
+ghost use Rattle.std.specs.Prelude.{◌≡◌, ◌≢◌, ◌+◌, ◌^◌, ◌≤◌, ℕ, Err, IfOk, None, OnErr, OnOk, Some, length};
 ghost use Rattle.std.specs.Result.{result_err};
 ghost use Rattle.db_changes.specs.Handles.{NewLast};
-ghost use Rattle.db_replay.specs.Applying.{new_by, new_in};
+ghost use Rattle.db_changes.specs.Made.{rooms_for};
 ghost use Rattle.dl_areas.specs.Lists.{AreReady};
 ghost use Rattle.dl_areas.specs.Writing.{Does, Ends};
-ghost use Rattle.dl_base.specs.Limits.{most_tables};
 ghost use Rattle.dl_base.specs.declared.answer.Answer.TheVariants as answers;
 ghost use Rattle.dl_codec.specs.Rows.{rows_record};
 ghost use Rattle.dl_codec.specs.declared.rows.RowsRecord.TheVariants as records;
@@ -23,10 +22,9 @@ ghost use Rattle.sys_seats.specs.Seats.{all_of, gives_of, votes_of};
 use crate::branch::{moves_links, write_prepared};
 use crate::room::make_room;
 use bk_restore::RestorePlan;
-use db_changes::Made;
+use db_changes::{Made, rooms_for};
 use db_replay::Change;
 use dl_areas::calls_follow_one_another;
-use dl_base::limits::MOST_TABLES;
 use dl_base::{Answer, AppendFault, Bench, LinkRow, List, Lost, Memory, StepFault};
 use dl_codec::{RowsRecord, TableChange, put_rows_record};
 use fm_manager::{Manager, Pieces};
@@ -47,8 +45,8 @@ pub struct Restoration {
     pub pieces: Option<Pieces>,
 }
 
-/// What is made for the restore of a plan, as the transaction of a number. Behind it there is room for its commit, and for copies of the
-/// links that are given. The error is want of memory, also for a plan that makes more than 256 tables or whose commit no record can have,
+/// What is made for the restore of a plan, as the transaction of a number. Behind it there is room for its commit, however many tables
+/// this makes, and for copies of the links that are given. The error is want of memory, also for a plan whose commit no record can have,
 /// and where a file that is to be copied has 2^32 bytes or more; it leaves all as it was but for room. It costs the bytes of the commit's
 /// record, its handles, a look at each transaction, n log n for n links, and the bytes of the files that are copied or filled.
 pub fn make_restoration(
@@ -61,7 +59,7 @@ pub fn make_restoration(
     requires { NewLast plan.handles }
     ensures made { IfOk result (IsMadeFor owners.new tx plan) }
     ensures same { HaveMoreRoom owners.old owners.new }
-    ensures commits { OnOk result (all_of votes_of seats.now + 1 ≤ owners.new.store.spare) }
+    ensures commits { OnOk result (all_of votes_of seats.now + rooms_for plan.handles ≤ owners.new.store.spare) }
     ensures copies { OnOk result (all_of gives_of seats.now + length plan.gives ≤ owners.new.manager.archive.spare) }
 {
     match pieces_behind_room(owners, seats, tx, &plan) {
@@ -83,10 +81,10 @@ fn pieces_behind_room(
     ensures pieces { IfOk result (ArePieces owners.new.manager tx (moved_by plan.now)) }
     ensures spelled { IfOk result (λ pieces. ArePiecesSpelled pieces) }
     ensures same { HaveMoreRoom owners.old owners.new }
-    ensures commits { OnOk result (all_of votes_of seats.now + 1 ≤ owners.new.store.spare) }
+    ensures commits { OnOk result (all_of votes_of seats.now + rooms_for plan.now.handles ≤ owners.new.store.spare) }
     ensures copies { OnOk result (all_of gives_of seats.now + length plan.now.gives ≤ owners.new.manager.archive.spare) }
 {
-    make_room(owners, seats, plan.gives.len())?;
+    make_room(owners, seats, rooms_for(&plan.handles), plan.gives.len())?;
     let pieces = pieces_for(&mut owners.manager, tx, &plan.gives, &plan.takes, plan.fill)?;
     are_spelled(&pieces);
     Ok(pieces)
@@ -161,7 +159,7 @@ fn are_spelled(pieces: &Option<Pieces>)
 }
 
 // The commit of these changes, and of handles of the tables that they make, whose record as that of the next number has a spelling. The
-// error is want of memory, also where they make more than 256 tables.
+// error is want of memory, also where it has none.
 fn commit_for(
     alloc: Global,
     owners: &Owners,
@@ -171,10 +169,10 @@ fn commit_for(
     handles: List<Change>,
 ) -> Result<Made, Memory>
     requires { NewLast handles }
-    ensures made { IfOk result (λ made. made ≡ record { tx = tx; branch = branch; changes = changes; handles = handles }) }
+    ensures made { IfOk result (λ made. made ≡ record { tx = tx; branch = branch; changes = changes; handles = handles; rooms = rooms_for handles }) }
     ensures fits { OnOk result (rows_record.fits (records.Commit tx (length owners.now.store.rows.commits + 1) branch changes)) }
 {
-    match number_for(owners, &handles) {
+    match next_number(owners) {
         Ok(number) => match spelled(alloc, tx, number, branch, changes) {
             Ok(changes) => Made::of(alloc, tx, branch, changes, handles),
             Err(Memory) => {
@@ -190,44 +188,14 @@ fn commit_for(
     }
 }
 
-// The number of the next commit, which may make the tables that handles make. The error comes exactly where there is no such number, or
-// they make more than 256 tables. It takes no memory.
-fn number_for(owners: &Owners, handles: &List<Change>) -> Result<u64, Memory>
+// The number of the next commit. The error comes exactly where there is no such number. It takes no memory.
+fn next_number(owners: &Owners) -> Result<u64, Memory>
     ensures number { IfOk result (λ number. number ≡ length owners.now.store.rows.commits + 1) }
-    ensures few { OnOk result (new_in handles.now ≤ most_tables) }
-    ensures memory { OnErr result (2 ^ 64 ≤ length owners.now.store.rows.commits + 1 ⊎ most_tables < new_in handles.now) }
+    ensures memory { OnErr result (2 ^ 64 ≤ length owners.now.store.rows.commits + 1) }
 {
-    let Some(number) = owners.store.commits().checked_add(1) else {
-        return Err(Memory);
-    };
-    if !are_few(handles) {
-        return Err(Memory);
-    }
-    Ok(number)
-}
-
-// Whether a commit may make the tables that handles make.
-fn are_few(handles: &List<Change>) -> bool
-    ensures { result ≡ nat_le (new_in handles.now) most_tables }
-{
-    let mut left = MOST_TABLES;
-    for change in handles.as_slice() {
-        let made = tables_made(change);
-        if left < made {
-            return false;
-        }
-        left -= made;
-    }
-    true
-}
-
-fn tables_made(change: &Change) -> usize
-    ensures { result ≡ new_by change.now }
-{
-    match change {
-        Change::Dropped(_) => 0,
-        Change::Kept(_, _) => 0,
-        Change::New(_, _) => 1,
+    match owners.store.commits().checked_add(1) {
+        Some(number) => Ok(number),
+        None => Err(Memory),
     }
 }
 
@@ -277,7 +245,7 @@ pub fn write_restore<B: Bench>(
     ensures answer { IfOk result (λ told. told ≡ answers.Restored (length owners.old.store.rows.commits + 1) restoration.lost) }
     ensures folds { OnOk result (folds_on (Some (folds_in owners.old)) (restore_part (folds_in owners.old) restoration.made (moved_in restoration)) ≡ Some (folds_in owners.new)) }
     ensures drawn { OnOk result (owners.new.store.drawn ≡ owners.old.store.drawn + 1) }
-    ensures commits { OnOk result (owners.old.store.spare ≤ owners.new.store.spare + 1) }
+    ensures commits { OnOk result (owners.old.store.spare ≤ owners.new.store.spare + restoration.made.rooms) }
     ensures copies { OnOk result (owners.old.manager.archive.spare ≤ owners.new.manager.archive.spare + length restoration.gives) }
     ensures memory { result ≡ Err StepFault.Memory → owners.new ≡ owners.old }
     ensures ends { Ends (journals_of owners.old) (journals_of owners.new) (as_writes (restore_part (folds_in owners.old) restoration.made (moved_in restoration))) (result_err result) (B.outside bench.old) (B.outside bench.new) }
@@ -326,7 +294,7 @@ fn commit_restore<B: Bench>(
     ensures answer { IfOk result (λ told. told ≡ answers.Restored (length owners.old.store.rows.commits + 1) restoration.lost) }
     ensures folds { OnOk result (folds_on (Some (folds_in owners.old)) (commit_part (folds_in owners.old) restoration.made (moved_in restoration)) ≡ Some (folds_in owners.new)) }
     ensures drawn { OnOk result (owners.new.store.drawn ≡ owners.old.store.drawn) }
-    ensures commits { OnOk result (owners.old.store.spare ≤ owners.new.store.spare + 1) }
+    ensures commits { OnOk result (owners.old.store.spare ≤ owners.new.store.spare + restoration.made.rooms) }
     ensures copies { OnOk result (owners.old.manager.archive.spare ≤ owners.new.manager.archive.spare + length restoration.gives) }
     ensures does { Does (journals_of owners.old) (journals_of owners.new) (as_writes (commit_part (folds_in owners.old) restoration.made (moved_in restoration))) (result_err result) (B.outside bench.old) (B.outside bench.new) }
 {

@@ -7,26 +7,31 @@ use dl_base::Memory;
 use sys_owners::Owners;
 use sys_seats::Seats;
 
-// Makes room for the commit of one more transaction, and for copies of so many links that it gives.
-pub(crate) fn make_room(owners: &mut Owners, seats: &Seats, gives: usize) -> Result<(), Memory>
+// Makes room for so many more commits beside those that are voted for, and for copies of so many more links that are given.
+pub(crate) fn make_room(
+    owners: &mut Owners,
+    seats: &Seats,
+    commits: usize,
+    gives: usize,
+) -> Result<(), Memory>
     ensures same { HaveMoreRoom owners.old owners.new }
-    ensures commits { OnOk result (all_of votes_of seats.now + 1 ≤ owners.new.store.spare) }
+    ensures commits { OnOk result (all_of votes_of seats.now + commits ≤ owners.new.store.spare) }
     ensures copies { OnOk result (all_of gives_of seats.now + gives ≤ owners.new.manager.archive.spare) }
 {
-    let commits = votes_with_one(seats)?;
+    let commits = votes_with(seats, commits)?;
     let copies = gives_with(seats, gives)?;
     owners.store.make_room(commits)?;
     owners.manager.make_room(copies)
 }
 
-fn votes_with_one(seats: &Seats) -> Result<u64, Memory>
-    ensures sum { IfOk result (λ n. n ≡ all_of votes_of seats.now + 1) }
-    ensures past { OnErr result (2 ^ 64 ≤ all_of votes_of seats.now + 1) }
+fn votes_with(seats: &Seats, more: usize) -> Result<u64, Memory>
+    ensures sum { IfOk result (λ n. n ≡ all_of votes_of seats.now + more) }
+    ensures past { OnErr result (2 ^ 64 ≤ all_of votes_of seats.now + more) }
 {
     let Some(votes) = seats.votes() else {
         return Err(Memory);
     };
-    match votes.checked_add(1) {
+    match votes.checked_add(more as u64) {
         Some(sum) => Ok(sum),
         None => Err(Memory),
     }

@@ -95,7 +95,7 @@ fn pieces_with_room(
     ensures copies { OnOk result (all_of gives_of seats.now + length claim.now.gives ≤ owners.new.manager.archive.spare) }
 {
     let pieces = pieces_of(&mut owners.manager, tx, claim)?;
-    match make_room(owners, seats, claim.gives.len()) {
+    match make_room(owners, seats, 1, claim.gives.len()) {
         Ok(()) => Ok(pieces),
         Err(Memory) => {
             drop(pieces);

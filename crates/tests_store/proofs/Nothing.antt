@@ -6,7 +6,7 @@ use Rattle.db_changes.specs.Made.{Making}
 use Rattle.db_store.specs.Store.{CanEnd, IsTaken, committed_with}
 
 abbrev nothing : ℕ → Making
-nothing tx = record { tx = tx; branch = true; changes = []; handles = [] }
+nothing tx = record { tx = tx; branch = true; changes = []; handles = []; rooms = 1 }
 
 abbrev none_yet : ℕ → List ℕ → Commits
 none_yet opening ended = record { opening = opening; commits = []; ended = ended }

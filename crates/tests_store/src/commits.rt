@@ -14,7 +14,7 @@ use std::alloc::Global;
 
 // What a transaction with a branch has made that changed nothing.
 fn nothing_made(alloc: Global, tx: u64) -> Option<Made>
-    ensures { IfSome result (λ made. made ≡ record { tx = tx; branch = true; changes = []; handles = [] }) }
+    ensures { IfSome result (λ made. made ≡ record { tx = tx; branch = true; changes = []; handles = []; rooms = 1 }) }
 {
     nothing_touched_covers();
     let tables = Tables::empty(alloc);

@@ -1,4 +1,4 @@
-use Rattle.std.proofs.Common.{◌≤◌, ◌++◌, ℕ, List, drop, length, take, sym, ap, ◌∙◌, subst, arith}
+use Rattle.std.proofs.Common.{◌*◌, ◌≤◌, ◌++◌, ℕ, List, drop, length, take, sym, ap, ◌∙◌, subst, arith}
 use Rattle.std.specs.Int.{to_be_bytes, w64}
 use Rattle.dl_base.specs.Limits.{most_tables}
 use Rattle.dl_codec.specs.Rows.{rows_record}
@@ -27,7 +27,10 @@ returns-clause-fits c =
     subst (λ (s : Making). rows_record.fits (record_of s c.args.number)) c.self.view_is (other_fits m.tx 0 c.args.number m.branch (changes_in m.body) c.ranges.number.fits c.self.invariant.fits)
 
 pub returns-clause-few : goal.returns-clause-few
-returns-clause-few c = subst (λ (s : Making). new_in s.handles ≤ most_tables) c.self.view_is c.self.invariant.few
+returns-clause-few c = subst (λ (s : Making). new_in s.handles ≤ s.rooms * most_tables) c.self.view_is c.self.invariant.few
+
+pub returns-clause-some : goal.returns-clause-some
+returns-clause-some c = subst (λ (s : Making). 1 ≤ s.rooms) c.self.view_is c.self.invariant.some
 
 pub returns-clause-order : goal.returns-clause-order
 returns-clause-order c = subst (λ (s : Making). NewLast s.handles) c.self.view_is c.self.invariant.order
