@@ -1,5 +1,5 @@
 #!/usr/bin/env python3
-"""Runs the built program where its surroundings fail: closed streams, a folder that another run has, areas that are no
+"""Runs the built program where its surroundings fail: closed streams, streams that are areas, a folder that another run has, areas that are no
 files of their own, a kill, a full disk, output that nobody takes, streams that do not block, and each end that has a
 status of its own. It looks at the status, at what was told, and at what stands in the files of the five areas afterwards.
 Prints a line for each, and ends with status 1 where one is not as it should be, else with 77 where a part was left out.
@@ -144,7 +144,7 @@ def closed_streams():
                 check(f"{name}: nothing is written", new == old, new)
             if want == 0:
                 check(f"{name}: all is told", told == b"1: ok\n2: bytes 3\n2| one\n", told)
-            else:
+            elif 1 not in shut:
                 check(f"{name}: nothing is told", told == b"", told)
             if 2 not in shut and want:
                 check(f"{name}: the status is on standard error", complaint == b"datalinks: status %d\n" % want, complaint)
@@ -158,6 +158,41 @@ def closed_streams():
         check("closed: all, in an empty folder: no file is made", status == 4 and content(folder) == {}, (status, content(folder)))
 
 
+def streams_that_are_areas():
+    """Standard output, or standard error, is an area's file, by its name or by a link, or is written behind its end."""
+    for stream in ("stdout", "stderr"):
+        for area in AREAS:
+            for how, flags in (("", os.O_RDWR), (", behind its end", os.O_WRONLY | os.O_APPEND)):
+                with tempfile.TemporaryDirectory() as folder:
+                    old = with_file(folder)
+                    given = os.open(os.path.join(folder, area), flags)
+                    status, told, complaint = run(folder, READ, **{stream: given})
+                    os.close(given)
+                    name = f"{stream} is {area}{how}"
+                    check(f"{name}: status 3", status == 3, status)
+                    check(f"{name}: the areas are as they were", content(folder) == old and reads_again(folder), content(folder))
+                    if stream == "stdout":
+                        check(f"{name}: the status is on standard error", complaint == b"datalinks: status 3\n", complaint)
+                    else:
+                        check(f"{name}: nothing is told", told == b"", told)
+    with tempfile.TemporaryDirectory() as folder, tempfile.TemporaryDirectory() as elsewhere:
+        with_file(folder)
+        os.rename(os.path.join(folder, AREAS[2]), os.path.join(elsewhere, "kept"))
+        os.symlink(os.path.join(elsewhere, "kept"), os.path.join(folder, AREAS[2]))
+        given = os.open(os.path.join(elsewhere, "kept"), os.O_RDWR)
+        status, _, _ = run(folder, READ, stdout=given)
+        os.close(given)
+        check("stdout is the file that an area's symbolic link leads to", status == 3 and reads_again(folder), status)
+    with tempfile.TemporaryDirectory() as folder:
+        with_file(folder)
+        given = os.open(os.path.join(folder, "told"), os.O_RDWR | os.O_CREAT)
+        status, _, _ = run(folder, READ, stdout=given, stderr=given)
+        os.close(given)
+        with open(os.path.join(folder, "told"), "rb") as file:
+            told = file.read()
+        check("both are another file of the folder", (status, told) == (0, READ_TOLD), (status, told))
+
+
 def locked_folder():
     with tempfile.TemporaryDirectory() as folder:
         old = with_file(folder)
@@ -169,18 +204,16 @@ def locked_folder():
         os.close(held)
         check("a folder that is free again", reads_again(folder))
     with tempfile.TemporaryDirectory() as folder:
+        # the first is held in its telling, by a pipe that has no room
         first = subprocess.Popen([PROGRAM, "run"], cwd=folder, stdin=subprocess.PIPE, stdout=subprocess.PIPE)
+        fcntl.fcntl(first.stdout, fcntl.F_SETPIPE_SZ, 4096)
         first.stdin.write(creates(3000))
         first.stdin.close()
         began = first.stdout.readline()
         status, told, _ = run(folder, creates(3000))
-        rest = first.stdout.read()
+        check("two at once: the second has status 3 and tells nothing", (status, told) == (3, b""), (status, told))
+        told_first = began + first.stdout.read()
         first.wait()
-        told_first = began + rest
-        if status == 0:
-            check("two at once: the second began when the first had ended", first.returncode == 0, first.returncode)
-        else:
-            check("two at once: the second has status 3 and tells nothing", (status, told) == (3, b""), (status, told))
         check("two at once: the first tells each line", first.returncode == 0 and told_first.count(b": ok\n") == 3000)
         check("two at once: what the first told is there", acknowledged(folder, told_first))
 
@@ -381,6 +414,7 @@ def statuses():
 
 
 closed_streams()
+streams_that_are_areas()
 locked_folder()
 shared_areas()
 folders_of_one_store()

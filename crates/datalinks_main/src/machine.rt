@@ -6,12 +6,12 @@ ghost use Rattle.dl_host.specs.Hosts.{count_after, is_fault, is_interruption, ha
 ghost use Rattle.dl_host.specs.Laws.{lawful_counted, blind_lawful};
 
 use dl_base::Area;
-use dl_host::{Host, Reader, Stop};
-use std::fs::{File, Files, OpenOptions, TryLockError};
-use std::io;
+use dl_host::{Host, Reader, Stop, file_name};
+use std::fs::{File, Files, Metadata, OpenOptions, TryLockError};
 use std::io::{ErrorKind, Read, Write};
 use std::os::fd::AsRawFd;
 use std::os::unix::fs::{FileExt, MetadataExt};
+use std::{fs, io};
 
 /// An area's open file, which is locked until it is let go.
 #[derive(Drop)]
@@ -297,4 +297,38 @@ pub fn closed_streams<R: Files<File = File>>(rt: &R) -> io::Result<[Option<File>
         *plug = Some(folder);
     }
     Ok(taken)
+}
+
+/// Whether standard output is the file of an area, which what is told would be written over. None is where the system does not tell
+/// the files of streams, by /dev/fd.
+pub fn is_output_an_area<R: Files<File = File>>(rt: &R) -> bool {
+    is_an_area(rt, "/dev/fd/1")
+}
+
+/// The same of standard error, which the status is written to.
+pub fn is_error_an_area<R: Files<File = File>>(rt: &R) -> bool {
+    is_an_area(rt, "/dev/fd/2")
+}
+
+fn is_an_area<R: Files<File = File>>(rt: &R, stream: &str) -> bool {
+    let areas = [
+        Area::Rows,
+        Area::Links,
+        Area::Files,
+        Area::Archive,
+        Area::Backups,
+    ];
+    match fs::metadata(rt, stream) {
+        Ok(found) => areas
+            .into_iter()
+            .any(|area| is_file(fs::metadata(rt, file_name(area)), &found)),
+        Err(_) => false,
+    }
+}
+
+fn is_file(answer: io::Result<Metadata>, found: &Metadata) -> bool {
+    match answer {
+        Ok(other) => other.dev() == found.dev() && other.ino() == found.ino(),
+        Err(_) => false,
+    }
 }

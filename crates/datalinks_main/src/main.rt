@@ -7,7 +7,7 @@ mod machine;
 use datalinks::{Status, single};
 use dl_base::{List, Memory, Text};
 use dl_host::{FolderBench, InputSource};
-use machine::{Machine, Script, closed_streams};
+use machine::{Machine, Script, closed_streams, is_error_an_area, is_output_an_area};
 use std::env;
 use std::io::ErrorKind;
 use std::process::ExitCode;
@@ -42,6 +42,9 @@ fn outcome(rt: HostRuntime) -> Status {
     let Ok(_taken) = closed_streams(&rt) else {
         return Status::Device;
     };
+    if is_output_an_area(&rt) || is_error_an_area(&rt) {
+        return Status::Device;
+    }
     match given_words(&rt) {
         Ok(Some(words)) => run(rt, words.as_slice()),
         Ok(None) => Status::Usage,
@@ -51,7 +54,7 @@ fn outcome(rt: HostRuntime) -> Status {
 
 fn main(rt: HostRuntime) -> ExitCode {
     let code = outcome(rt).code();
-    if code != 0 {
+    if code != 0 && !is_error_an_area(&rt) {
         let _ = eprintln!(rt; "datalinks: status {code}");
     }
     ExitCode::from(code)
