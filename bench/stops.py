@@ -259,10 +259,12 @@ def stopped(name, text, how, status, known=None):
 
 
 def synced(name, text, calls):
-    """Each record is written by four calls and synced twice: where a program makes fewer, there is none to be stopped at."""
+    """In an empty folder each record is written by four calls and synced twice; each of the five areas has its first gate written and
+    synced, is synced once more by its opening, and has its folder synced for its name. Where a program makes fewer, there is none to
+    be stopped at."""
     records = len(written_by_line(text)[0].written)
-    enough = (calls["pwrite64"] >= 4 * records, calls["fsync"] + calls["fdatasync"] >= 2 * records)
-    check(f"{name}: {records} records, {calls}: writes and syncs enough", enough, (True, True))
+    made = (calls["pwrite64"], calls["fsync"] + calls["fdatasync"])
+    check(f"{name}: {records} records, {calls}: writes and syncs", made, (4 * records + 5, 2 * records + 15))
 
 
 def interrupted(name, text, calls):
