@@ -349,8 +349,9 @@ def many_tables(script, sessions, each):
     script.add(*(f"{name}: BEGIN" for name in sessions))
     for name in sessions:
         script.add(*(f"{name}: CREATE TABLE {name.lower()}{i} (x INTEGER)" for i in range(1, each + 1)))
-    script.add(f"{name}: INSERT INTO {name.lower()}{each} VALUES (7)", *(f"{name}: COMMIT" for name in sessions))
-    script.add("! backup", f"! restore commit {before}", f"{name}: SELECT x FROM {name.lower()}{each}")
+    last = sessions[-1]
+    script.add(f"{last}: INSERT INTO {last.lower()}{each} VALUES (7)", *(f"{name}: COMMIT" for name in sessions))
+    script.add("! backup", f"! restore commit {before}", f"{last}: SELECT x FROM {last.lower()}{each}")
 
 
 def many_restored(script, sessions, each):
