@@ -1,5 +1,6 @@
--- What holds of all lists of Rows and Links that are taken: an ended transaction has a commit, and a link is held on its own path.
-use Rattle.std.proofs.Common.{◌≡◌, ⊎_elim, ℕ, ◌+◌, ◌/◌, ◌^◌, ◌==◌, List, [], ◌∷◌, ◌++◌, length, Bool, true, false, not, cond, ◌&&◌, Option, Some, None, is_none, is_some, Result, Ok, Err, refl, sym, ◌∙◌, ap, subst}
+-- What holds of all lists of Rows and Links that are taken: an ended transaction has a commit, the rows after each commit fit, and a
+-- link is held on its own path.
+use Rattle.std.proofs.Common.{◌≡◌, inl, inr, ⊎_elim, ℕ, ◌+◌, ◌/◌, ◌^◌, ◌==◌, List, [], ◌∷◌, ◌++◌, length, Bool, true, false, not, cond, ◌&&◌, Option, Some, None, is_none, is_some, Result, Ok, Err, refl, sym, ◌∙◌, ap, subst}
 use Rattle.std.specs.FinMap as maps
 use Rattle.std.specs.Option.{ok_or, option_and_then}
 use Rattle.dl_base.specs.declared.value.LinkRow.{LinkRow}
@@ -16,15 +17,17 @@ use Rattle.meaning_areas.specs.Areas.{branches_of, links_body, rows_body, rows_o
 use Rattle.meaning_areas.specs.Branches.{Branch, Branches, branch, done_on, is_phase, links_step, may_prepare, moved_by, moves_on, no_branches, prepares_on, with_branch, with_done}
 use Rattle.meaning_areas.specs.Commits.{Commit, Commits, commit_of, commit_to, ends_on, fitting, has_number, no_commits, rows_step, tables_after, with_commit, with_ended, with_table_changes}
 use Rattle.meaning_areas.specs.Folds.{folded}
+use Rattle.meaning_areas.specs.Stands.{IsCommit}
 use Rattle.meaning_areas.proofs.Tables.{has-push}
 use Rattle.meaning_settling.proofs.KeyedLaws.{find-key, get-over}
 use Rattle.meaning_settling.proofs.SettlingLaws.{held-again, held-off}
 use Rattle.meaning_settling.specs.Keyed.{Keyed, over}
 use Rattle.meaning_settling.specs.Settling.{Moved, held_after, held_by, on, paths_of}
-use Rattle.meaning_tables.specs.Fits.{fits}
+use Rattle.meaning_tables.specs.Fits.{Fits, fits}
 use Rattle.meaning_tables.specs.Tables.{Tables}
-use Rattle.compare_links.specs.Fitting.{HasOwnPaths}
-use Rattle.compare_every.proofs.Deciding.{false_true, some-if}
+use Rattle.compare_links.specs.Fitting.{EachCommit, HasOwnPaths}
+use Rattle.compare_every.proofs.Deciding.{false_true, some-if, some_same}
+use Rattle.compare_every.proofs.Lists.{none_some}
 
 -- what each record keeps holds of all that is folded
 module _ {S : Type 0} (step : S → List ℕ → Option S) (P : S → Type 0) (keeps : (s later : S) (body : List ℕ) → step s body ≡ Some later → P s → P later) where
@@ -87,6 +90,50 @@ body-ended r later body e have = by (whole rows_record body) e
 
 pub ended-have : (bodies : List (List ℕ)) (r : Commits) → rows_of bodies ≡ Ok r → EndedHave r
 ended-have bodies r e = folded-keeps rows_body EndedHave body-ended bodies 0 no_commits r e (λ tx is. absurd (false_true is))
+
+-- THE ROWS AFTER EACH COMMIT FIT
+
+abbrev AllFit : Commits → Type 0
+AllFit r = EachCommit (λ c. Fits c.tables) r.commits
+
+each-push : (P : Commit → Type 0) (cs : List Commit) (d : Commit) → EachCommit P cs → P d → EachCommit P (cs ++ d ∷ [])
+each-push P [] d each holds c is = ⊎_elim (λ (here : c ≡ d). subst P (sym here) holds) (λ never. absurd never) is
+each-push P (x ∷ xs) d each holds c is = ⊎_elim (λ (here : c ≡ x). each c (inl here)) (λ (later : IsCommit c (xs ++ d ∷ [])). each-push P xs d (λ e there. each e (inr there)) holds c later) is
+
+fitting-fit : (r later : Commits) (tx : ℕ) (b : Bool) (o : Option Tables) → fitting r tx b o ≡ Some later → AllFit r → AllFit later
+fitting-fit r later tx b None e fit = absurd (none_some later e)
+fitting-fit r later tx b (Some tables) e fit = by (fits tables) refl e
+  where
+    d : Commit
+    d = commit_to r.commits tx b tables
+
+    by : (t : Bool) → fits tables ≡ t → cond t (Some (with_commit r d)) None ≡ Some later → AllFit later
+    by true fits is = subst AllFit (some_same (with_commit r d) later is) (each-push (λ c. Fits c.tables) r.commits d fit fits)
+    by false fits is = absurd (none_some later is)
+
+step-fit : (r later : Commits) (x : RowsRecord) → rows_step r x ≡ Some later → AllFit r → AllFit later
+step-fit r later (rows_records.Opening number) e fit = subst AllFit (some-if (number == r.opening + 1) (record { opening = number; commits = r.commits; ended = r.ended }) later e) fit
+step-fit r later (rows_records.Commit tx number b changes) e fit =
+    by ((number == length r.commits + 1) && is_none (commit_of tx r.commits) && (tx / 2 ^ 32 == r.opening)) e
+  where
+    by : (t : Bool) → cond t (fitting r tx b (with_table_changes number (tables_after [] r.commits) changes)) None ≡ Some later → AllFit later
+    by true is = fitting-fit r later tx b (with_table_changes number (tables_after [] r.commits) changes) is fit
+    by false is = absurd (none_some later is)
+step-fit r later (rows_records.Ended tx) e fit = of (commit_of tx r.commits) e
+  where
+    of : (o : Option Commit) → ends_on r tx o ≡ Some later → AllFit later
+    of None is = absurd (none_some later is)
+    of (Some c) is = subst AllFit (some-if (c.branch && not (has_number tx r.ended)) (with_ended r tx) later is) fit
+
+body-fit : (r later : Commits) (body : List ℕ) → rows_body r body ≡ Some later → AllFit r → AllFit later
+body-fit r later body e fit = by (whole rows_record body) e
+  where
+    by : (o : Option RowsRecord) → option_and_then (rows_step r) o ≡ Some later → AllFit later
+    by None is = absurd (none_some later is)
+    by (Some x) is = step-fit r later x is fit
+
+pub rows-fit : (bodies : List (List ℕ)) (r : Commits) → rows_of bodies ≡ Ok r → EachCommit (λ c. Fits c.tables) r.commits
+rows-fit bodies r e = folded-keeps rows_body AllFit body-fit bodies 0 no_commits r e (λ c never. absurd never)
 
 -- A LINK IS HELD ON ITS OWN PATH
 

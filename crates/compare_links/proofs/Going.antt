@@ -1,5 +1,5 @@
 -- The walk over the commits: what is known before each, and what is asked of each then.
-use Rattle.std.proofs.Common.{◌≡◌, ◌⊎◌, inl, inr, ⊎_elim, ℕ, ◌+◌, ◌/◌, ◌^◌, ◌≤◌, ◌==◌, ◌&&◌, nat_le, Bool, true, false, not, List, [], length, Option, Some, None, refl, sym, ap, subst, ◌∙◌}
+use Rattle.std.proofs.Common.{◌≡◌, ◌⊎◌, inl, inr, ℕ, ◌+◌, ◌/◌, ◌^◌, ◌≤◌, ◌&&◌, nat_le, Bool, true, false, not, List, [], length, Option, Some, None, refl, sym, ap, subst, ◌∙◌}
 use Rattle.std.proofs.lemmas.Bool.{and_from, and_parts}
 use Rattle.std.proofs.lemmas.List.Elements.{All-filter}
 use Rattle.std.specs.Bool.{Decides}
@@ -12,7 +12,7 @@ use Rattle.meaning_areas.proofs.Equal.{row-link-decides}
 use Rattle.meaning_areas.specs.Branches.{Branch, given_on}
 use Rattle.meaning_areas.specs.Commits.{Commit, Commits, has_number}
 use Rattle.meaning_areas.specs.Stands.{IsBranch}
-use Rattle.meaning_merge.proofs.Numbers.{Distinct, picked-in}
+use Rattle.meaning_merge.proofs.Numbers.{Distinct}
 use Rattle.meaning_merge.proofs.Paths.{differ-one, in-numbered, numbered-in, one-differ}
 use Rattle.meaning_merge.proofs.MovedLaws.{lacking-in}
 use Rattle.meaning_merge.proofs.Touched.{fits-distinct}
@@ -22,7 +22,6 @@ use Rattle.meaning_settling.specs.Settling.{link_key, numbered}
 use Rattle.meaning_tables.specs.Fits.{Fits}
 use Rattle.meaning_tables.specs.Links.{gives, links, takes}
 use Rattle.meaning_tables.specs.Tables.{Tables}
-use Rattle.compare_links.proofs.Touched.{changed-or-old}
 use Rattle.compare_every.proofs.Deciding.{false_true}
 use Rattle.compare_links.proofs.LinkLists.{drawn-decides, le-decides}
 use Rattle.compare_every.proofs.Rows.{Found}
@@ -33,23 +32,15 @@ use Rattle.compare_every.proofs.Lists.{none_some}
 use Rattle.compare_links.proofs.Walks.{below-more, below-none, commit-at, each-below}
 use Rattle.compare_every.specs.Every.{IsEvery, OneRowEach, agrees, first_row}
 use Rattle.compare_links.specs.Fitting.{CommitFits, EachCommit, are_drawn, is_done_at}
-use Rattle.compare_links.specs.Moving.{IsStep, StepFits, agrees_in, all_agree, are_free, changed, with_paths, without_paths}
+use Rattle.compare_links.specs.Moving.{AreKnown, StepFits, agrees_in, all_agree, are_free, with_paths, without_paths}
 use Rattle.compare_links.specs.Walking.{HoldsBelow}
-
--- where the links of the tables that a commit changed agree with what is known, and those before it are known, all after it agree
-agree-after : (known : Found) (number : ℕ) (before after : Tables) → IsStep number before after → ((l : LinkRow) → In l (links before) → known (link_key l.link) ≡ Some l)
-    → all_agree known (links (changed number after)) ≡ true → (l : LinkRow) → In l (links after) → agrees_in known l ≡ true
-agree-after known number before after step has agree l is = ⊎_elim
-    (λ (new : In l (links (changed number after))). each-in (agrees_in known) (links (changed number after)) l agree new)
-    (λ (old : In l (links before)). ap (λ (o : Option LinkRow). agrees o l) (has l old) ∙ (row-link-decides l l).1 refl)
-    (changed-or-old number before after step l is)
 
 -- THE FIRST COMMITS have been gone through; these are the tables after them, the paths that are linked, and what is known
 pub record IsWalked (r : Commits) (table : Table) (i : ℕ) (before : Tables) (paths : Linked) (known : Found) : Type 0 where
   pub fit : HoldsBelow (CommitFits r table) r.commits i
   pub every : IsEveryBelow r.commits known i
   pub fits : Fits before
-  pub has : (l : LinkRow) → In l (links before) → known (link_key l.link) ≡ Some l
+  pub has : AreKnown known before
   pub one : OnePath (links before)
   pub linked : (q : List ℕ) → paths q ≡ given_on (links before) q
   pub drawn : (l : LinkRow) → In l (links before) → l.link.tx / 2 ^ 32 ≤ r.opening
@@ -70,7 +61,7 @@ walked-none r table before paths known is no_paths none = subst (λ (ts : Tables
 
 -- ONE COMMIT MORE
 module _ (r : Commits) (table : Table) (i : ℕ) (before after : Tables) (tx : ℕ) (b : Bool) (paths : Linked) (known : Found)
-    (at : slice_get r.commits i ≡ Some (commit_between before tx b after)) (step : IsStep (i + 1) before after) (walked : IsWalked r table i before paths known) where
+    (at : slice_get r.commits i ≡ Some (commit_between before tx b after)) (fits_after : Fits after) (walked : IsWalked r table i before paths known) where
   abbrev c : Commit
   c = commit_between before tx b after
 
@@ -81,18 +72,18 @@ module _ (r : Commits) (table : Table) (i : ℕ) (before after : Tables) (tx : �
   after_links = links after
 
   abbrev Goes : Type 0
-  Goes = StepFits r table (i + 1) paths known c
+  Goes = StepFits r table paths known c
 
   distinct_before : Distinct before_links
   distinct_before = fits-distinct before walked.fits
 
   distinct : Distinct after_links
-  distinct = fits-distinct after step.fits
+  distinct = fits-distinct after fits_after
 
   -- what is asked of it is that it fits, and agrees with those before it
   module _ (fits : Goes) where
     agree : (l : LinkRow) → In l after_links → agrees_in known l ≡ true
-    agree = agree-after known (i + 1) before after step walked.has fits.agree
+    agree l is = each-in (agrees_in known) after_links l fits.agree is
 
     drawn : (l : LinkRow) → In l after_links → l.link.tx / 2 ^ 32 ≤ r.opening
     drawn = holds-after before_links after_links distinct_before distinct known walked.has agree (λ l. l.link.tx / 2 ^ 32 ≤ r.opening) walked.drawn fits.drawn
@@ -118,7 +109,7 @@ module _ (r : Commits) (table : Table) (i : ℕ) (before after : Tables) (tx : �
           (λ k x e. puts k ∙ ap (λ (o : Option LinkRow). first_row o (numbered (takes before after) k)) e)
           (λ k x e. only k x (known k) refl (sym (puts k) ∙ e))
           walked.every;
-      fits = step.fits;
+      fits = fits_after;
       has = has;
       one = one;
       linked = λ q. links_paths q ∙ linked-after before_links after_links distinct_before distinct known walked.has agree paths walked.linked walked.one q;
@@ -140,7 +131,7 @@ module _ (r : Commits) (table : Table) (i : ℕ) (before after : Tables) (tx : �
     ended = fits.ended;
     number = fits.number;
     drawn = All-filter (λ x. not (is_in before_links x)) (λ l. l.link.tx / 2 ^ 32 ≤ r.opening) after_links fits.drawn;
-    agree = in-each (agrees_in known) (links (changed (i + 1) after)) (λ l is. agree l (picked-in (λ t. t.1.version == (i + 1)) after l is));
+    agree = in-each (agrees_in known) after_links agree;
     free = after-free before_links after_links distinct_before distinct known walked.has agree paths walked.linked walked.one (differ-one after_links fits.paths);
   }
     where
@@ -169,12 +160,12 @@ pub branch-same : (b : Bool) (gs gave ts took : List LinkRow) (o p : Option Bran
 branch-same b gs gave ts took o p same_gives same_takes same is =
     subst (λ (x : Option Branch). IsBranch b gave took x) same (subst (λ (ls : List LinkRow). IsBranch b gave ls o) same_takes (subst (λ (ls : List LinkRow). IsBranch b ls ts o) same_gives is))
 
-pub step-decides : (r : Commits) (table : Table) (number : ℕ) (paths : Linked) (known : Found) (c : Commit) (t : Bool) → IsBranch c.branch c.gives c.takes (maps.get table c.tx) → is_done_at (has_number c.tx r.ended) (maps.get table c.tx) ≡ true
-    → nat_le (c.tx / 2 ^ 32) r.opening ≡ true → t ≡ (are_drawn r.opening c.takes && all_agree known (links (changed number c.tables)) && are_free (without_paths c.gives paths) c.takes) → Decides t (StepFits r table number paths known c)
-step-decides r table number paths known c t has done drawn e = (
+pub step-decides : (r : Commits) (table : Table) (paths : Linked) (known : Found) (c : Commit) (t : Bool) → IsBranch c.branch c.gives c.takes (maps.get table c.tx) → is_done_at (has_number c.tx r.ended) (maps.get table c.tx) ≡ true
+    → nat_le (c.tx / 2 ^ 32) r.opening ≡ true → t ≡ (are_drawn r.opening c.takes && all_agree known (links c.tables) && are_free (without_paths c.gives paths) c.takes) → Decides t (StepFits r table paths known c)
+step-decides r table paths known c t has done drawn e = (
   λ on.
-      let two = and_parts (are_drawn r.opening c.takes && all_agree known (links (changed number c.tables))) (are_free (without_paths c.gives paths) c.takes) (sym e ∙ on) in
-      let one = and_parts (are_drawn r.opening c.takes) (all_agree known (links (changed number c.tables))) two.0 in
+      let two = and_parts (are_drawn r.opening c.takes && all_agree known (links c.tables)) (are_free (without_paths c.gives paths) c.takes) (sym e ∙ on) in
+      let one = and_parts (are_drawn r.opening c.takes) (all_agree known (links c.tables)) two.0 in
       record {
         branch = has;
         ended = (done-decides (has_number c.tx r.ended) (maps.get table c.tx)).0 done;
@@ -184,6 +175,6 @@ step-decides r table number paths known c t has done drawn e = (
         free = two.1;
       },
   λ fits.
-      e ∙ and_from (are_drawn r.opening c.takes && all_agree known (links (changed number c.tables))) (are_free (without_paths c.gives paths) c.takes)
-      (and_from (are_drawn r.opening c.takes) (all_agree known (links (changed number c.tables))) ((drawn-decides r.opening c.takes (are_drawn r.opening c.takes) refl).1 fits.drawn) fits.agree) fits.free,
+      e ∙ and_from (are_drawn r.opening c.takes && all_agree known (links c.tables)) (are_free (without_paths c.gives paths) c.takes)
+      (and_from (are_drawn r.opening c.takes) (all_agree known (links c.tables)) ((drawn-decides r.opening c.takes (are_drawn r.opening c.takes) refl).1 fits.drawn) fits.agree) fits.free,
 )

@@ -9,7 +9,5 @@ pub mod Numbers
 pub mod Owning
 pub mod Passing
 pub mod PathSets
-pub mod Steps
 pub mod Tests
-pub mod Touched
 pub mod Walks

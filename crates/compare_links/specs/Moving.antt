@@ -1,50 +1,24 @@
--- What a commit changes: the tables that have its number as their version, the paths that are linked, and the links that are known by
--- their numbers.
-use Rattle.std.specs.Prelude.{◌≡◌, ℕ, ◌+◌, ◌/◌, ◌^◌, ◌≤◌, ◌==◌, ◌&&◌, ◌||◌, Bool, true, false, not, List, [], ◌∷◌, filter, Option, Some, None}
+-- What a commit changes: the paths that are linked, and the links that are known by their numbers.
+use Rattle.std.specs.Prelude.{◌≡◌, ℕ, ◌/◌, ◌^◌, ◌≤◌, ◌&&◌, ◌||◌, Bool, true, false, not, List, [], ◌∷◌, Option, Some, None}
 use Rattle.std.specs.FinMap as maps
 use Rattle.std.specs.List.{list_all}
+use Rattle.db_changes.specs.Touched.{Touched, among, numbers_of}
 use Rattle.dl_base.specs.declared.column.Column.{Column}
 use Rattle.dl_base.specs.declared.column.Kind.{Kind}
 use Rattle.dl_base.specs.declared.column.Kind.TheVariants as kinds
 use Rattle.dl_base.specs.declared.value.LinkRow.{LinkRow}
+use Rattle.dl_base.specs.declared.value.Row.{Row}
 use Rattle.fm_branch.specs.Table.{Table}
 use Rattle.meaning_areas.specs.Branches.{given_on}
 use Rattle.meaning_areas.specs.Commits.{Commit, Commits, has_number}
 use Rattle.meaning_areas.specs.Stands.{AreDrawn, IsBranch}
-use Rattle.meaning_merge.specs.History.{Subsequence}
+use Rattle.meaning_merge.specs.Touching.{In}
 use Rattle.meaning_settling.specs.Keyed.{is_at}
 use Rattle.meaning_settling.specs.Settling.{link_key}
-use Rattle.meaning_tables.specs.Fits.{Fits}
-use Rattle.meaning_tables.specs.Links.{links}
-use Rattle.meaning_tables.specs.Tables.{Rows, Tables, table_of}
+use Rattle.meaning_tables.specs.Links.{links, row_links}
+use Rattle.meaning_tables.specs.Tables.{Rows, Tables, row_of, table_of}
 use Rattle.compare_every.specs.Every.{agrees}
 use Rattle.compare_links.specs.Fitting.{IsDoneAt}
-
--- TABLES that the commit of a number changed: they have its number as their version
-
-abbrev pub changed : ℕ → Tables → Tables
-changed number tables = filter (λ t. t.1.version == number) tables
-
-abbrev pub unchanged : ℕ → Tables → Tables
-unchanged number tables = filter (λ t. not (t.1.version == number)) tables
-
--- those before it that it changed, or that are none of those after it
-abbrev pub is_lost : ℕ → Option Rows → Bool
-is_lost number None = true
-is_lost number (Some t) = t.version == number
-
-abbrev pub lost : ℕ → Tables → Tables → Tables
-lost number after before = filter (λ t. is_lost number (table_of after t.0)) before
-
--- after it the rows fit, and the tables that it did not change stood before, in their order
-pub record IsStep (number : ℕ) (before after : Tables) : Type 0 where
-  pub fits : Fits after
-  pub kept : Subsequence before (unchanged number after)
-
--- the same of each commit, from a number on
-abbrev pub AreSteps : ℕ → Tables → List Commit → Type 0
-AreSteps number before [] = Unit {0}
-AreSteps number before (c ∷ cs) = IsStep number before c.tables × AreSteps (number + 1) c.tables cs
 
 -- columns that have no links
 abbrev pub is_unlinked : Kind → Bool
@@ -64,6 +38,27 @@ agrees_in rows l = agrees (rows (link_key l.link)) l
 abbrev pub all_agree : (List ℕ → Option LinkRow) → List LinkRow → Bool
 all_agree rows ls = list_all (agrees_in rows) ls
 
+-- each link of tables is known
+abbrev pub AreKnown : (List ℕ → Option LinkRow) → Tables → Type 0
+AreKnown rows tables = (l : LinkRow) → In l (links tables) → rows (link_key l.link) ≡ Some l
+
+-- the links of a row, if there is one, agree
+abbrev pub row_agrees : (List ℕ → Option LinkRow) → List Column → Option Row → Bool
+row_agrees rows columns None = true
+row_agrees rows columns (Some row) = all_agree rows (row_links columns row.values)
+
+-- those of the row of a number
+abbrev pub agrees_at : (List ℕ → Option LinkRow) → Rows → ℕ → Bool
+agrees_at rows t number = row_agrees rows t.columns (row_of t.rows number)
+
+-- each row of a table agrees, beside those of some numbers
+abbrev pub AgreesBeside : (List ℕ → Option LinkRow) → List ℕ → Rows → Type 0
+AgreesBeside rows numbers t = (n : ℕ) → among numbers n ≡ false → agrees_at rows t n ≡ true
+
+-- so does each beside the touched ones, where there was a table of this name with these columns
+abbrev pub StaysKnown : (List ℕ → Option LinkRow) → Touched → Tables → List ℕ → Rows → Type 0
+StaysKnown rows touched before name t = (was : Rows) → table_of before name ≡ Some was → was.columns ≡ t.columns → AgreesBeside rows (numbers_of touched name) t
+
 -- PATHS, without those of some links, with one more, and with those of some links
 
 abbrev pub without_paths : List LinkRow → (List ℕ → Bool) → List ℕ → Bool
@@ -80,11 +75,11 @@ abbrev pub are_free : (List ℕ → Bool) → List LinkRow → Bool
 are_free paths [] = true
 are_free paths (l ∷ ls) = not (paths l.path) && are_free (with_path l.path paths) ls
 
--- WHAT IS ASKED OF THE COMMIT OF A NUMBER, where these paths are linked before it, and these links are known
-pub record StepFits (rows : Commits) (table : Table) (n : ℕ) (paths : List ℕ → Bool) (known : List ℕ → Option LinkRow) (c : Commit) : Type 0 where
+-- WHAT IS ASKED OF A COMMIT, where these paths are linked before it, and these links are known
+pub record StepFits (rows : Commits) (table : Table) (paths : List ℕ → Bool) (known : List ℕ → Option LinkRow) (c : Commit) : Type 0 where
   pub branch : IsBranch c.branch c.gives c.takes (maps.get table c.tx)
   pub ended : IsDoneAt (has_number c.tx rows.ended) (maps.get table c.tx)
   pub number : c.tx / 2 ^ 32 ≤ rows.opening
   pub drawn : AreDrawn rows.opening c.takes
-  pub agree : all_agree known (links (changed n c.tables)) ≡ true
+  pub agree : all_agree known (links c.tables) ≡ true
   pub free : are_free (without_paths c.gives paths) c.takes ≡ true

@@ -2,26 +2,39 @@
 ghost use Rattle.std.specs.Prelude.{◌≡◌, ◌↔◌, IsTrue};
 ghost use Rattle.std.specs.BTreeMap.{get};
 ghost use Rattle.std.specs.Cmp.Lexicographic.{slice_cmp};
+ghost use Rattle.std.specs.List.{list_all};
 ghost use Rattle.std.specs.Ordering.{nat_cmp};
 ghost use Rattle.compare_every.specs.Every.{agrees};
-ghost use Rattle.compare_links.specs.Moving.{all_agree, are_unlinked, is_unlinked};
+ghost use Rattle.compare_links.specs.Moving.{AgreesBeside, AreKnown, StaysKnown, agrees_at, all_agree, are_unlinked, is_unlinked};
+ghost use Rattle.db_changes.specs.Touched.{AreCommitted, Covers, numbers_of};
 ghost use Rattle.meaning_settling.specs.Settling.{link_key};
 ghost use Rattle.meaning_tables.specs.Links as meant;
 
 use compare_every::number_of;
-use dl_base::{Column, Kind, LinkNo, LinkRow, List, Options, Path, Row, Same, Value};
+use db_changes::TouchedRows;
+use dl_base::{Column, Kind, LinkNo, LinkRow, List, Name, Options, Path, Row, Same, Value};
+use dl_pages::Pages;
 use sql_table::{Table, Tables};
 use std::collections::BTreeMap;
 
-/// Whether each link of tables is the one that is known of its number, if one is. It takes no memory. It costs a look at each row of
-/// the tables that have a column under link control, and a look-up for each link.
-pub fn tables_agree(rows: &BTreeMap<[u64; 2], LinkRow>, tables: &Tables) -> bool
-    ensures { result ≡ all_agree (get (slice_cmp nat_cmp) rows.now) (meant.links tables.now) }
+/// Whether each link of tables is the one that is known of its number, if one is, where each link of the tables before them is known.
+/// It takes no memory. It costs a look at each table's columns; of a table with one under link control a look-up of its name, and a
+/// look at each touched row, or at each row where none of its name and columns was before; and a look-up for each link of those rows.
+pub fn tables_agree(
+    rows: &BTreeMap<[u64; 2], LinkRow>,
+    before: &Tables,
+    after: &Tables,
+    touched: &TouchedRows,
+) -> bool
+    requires has { AreKnown (get (slice_cmp nat_cmp) rows.now) before.now }
+    requires covers { Covers touched.now before.now after.now }
+    requires committed { AreCommitted after.now }
+    ensures { result ≡ all_agree (get (slice_cmp nat_cmp) rows.now) (meant.links after.now) }
 {
-    for i in 0..tables.len() {
-        match tables.at(i) {
-            Some((_, table)) => {
-                if !table_agrees(rows, table) {
+    for i in 0..after.len() {
+        match after.at(i) {
+            Some((name, table)) => {
+                if !table_agrees(rows, before, name, table, touched) {
                     return false;
                 }
             }
@@ -31,10 +44,68 @@ pub fn tables_agree(rows: &BTreeMap<[u64; 2], LinkRow>, tables: &Tables) -> bool
     true
 }
 
-fn table_agrees(rows: &BTreeMap<[u64; 2], LinkRow>, table: &Table) -> bool
+fn table_agrees(
+    rows: &BTreeMap<[u64; 2], LinkRow>,
+    before: &Tables,
+    name: &Name,
+    table: &Table,
+    touched: &TouchedRows,
+) -> bool
+    requires { StaysKnown (get (slice_cmp nat_cmp) rows.now) touched.now before.now name.now table.now }
     ensures { result ≡ all_agree (get (slice_cmp nat_cmp) rows.now) (meant.table_links table.now) }
 {
-    are_unlinked(table.columns()) || rows_agree(rows, table)
+    if are_unlinked(table.columns()) {
+        return true;
+    }
+    match before.table(name) {
+        Some(was) => {
+            if was.columns().same(table.columns()) {
+                touched_agree(rows, name, table, touched)
+            } else {
+                rows_agree(rows, table)
+            }
+        }
+        None => rows_agree(rows, table),
+    }
+}
+
+// Whether the links of a table agree, where those of each row that was not touched do.
+fn touched_agree(
+    rows: &BTreeMap<[u64; 2], LinkRow>,
+    name: &Name,
+    table: &Table,
+    touched: &TouchedRows,
+) -> bool
+    requires { AgreesBeside (get (slice_cmp nat_cmp) rows.now) (numbers_of touched.now name.now) table.now }
+    ensures { result ≡ all_agree (get (slice_cmp nat_cmp) rows.now) (meant.table_links table.now) }
+{
+    // so it is known that row numbers rise
+    let _ = table.len();
+    match touched.of(name) {
+        Some(numbers) => numbers_agree(rows, table, numbers),
+        None => true,
+    }
+}
+
+// Whether the links of the rows of some numbers agree.
+fn numbers_agree(rows: &BTreeMap<[u64; 2], LinkRow>, table: &Table, numbers: &Pages<u64>) -> bool
+    ensures { result ≡ list_all (agrees_at (get (slice_cmp nat_cmp) rows.now) table.now) numbers.now }
+{
+    for i in 0..numbers.len() {
+        if !number_agrees(rows, table, *numbers.item(i)) {
+            return false;
+        }
+    }
+    true
+}
+
+fn number_agrees(rows: &BTreeMap<[u64; 2], LinkRow>, table: &Table, number: u64) -> bool
+    ensures { result ≡ agrees_at (get (slice_cmp nat_cmp) rows.now) table.now number }
+{
+    match table.row(number) {
+        Some(row) => row_agrees(rows, table.columns(), row),
+        None => true,
+    }
 }
 
 // Whether columns have no links.

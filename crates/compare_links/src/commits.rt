@@ -1,5 +1,5 @@
 // The commits, one after another: what is asked of each, and the links of all.
-ghost use Rattle.std.specs.Prelude.{◌≡◌, ◌&&◌, ◌+◌, ◌==◌, ◌/◌, ◌^◌, ℕ, List, [], IfOk, Some, length, nat_le, true};
+ghost use Rattle.std.specs.Prelude.{◌≡◌, ◌&&◌, ◌==◌, ◌/◌, ◌^◌, ℕ, List, [], IfOk, Some, length, nat_le, true};
 ghost use Rattle.std.specs.BTreeMap.{get};
 ghost use Rattle.std.specs.BTreeSet.{contains};
 ghost use Rattle.std.specs.Bool.{Decides};
@@ -7,8 +7,9 @@ ghost use Rattle.std.specs.Cmp.Lexicographic.{slice_cmp};
 ghost use Rattle.std.specs.Option.{option_map};
 ghost use Rattle.std.specs.Ordering.{nat_cmp};
 ghost use Rattle.compare_every.specs.Every.{first_row};
-ghost use Rattle.compare_links.specs.Fitting.{CommitsFit, are_drawn, is_done_at};
-ghost use Rattle.compare_links.specs.Moving.{AreSteps, IsStep, StepFits, all_agree, are_free, with_paths, without_paths};
+ghost use Rattle.compare_links.specs.Fitting.{CommitsFit, EachCommit, are_drawn, is_done_at};
+ghost use Rattle.compare_links.specs.Moving.{AreKnown, StepFits, all_agree, are_free, with_paths, without_paths};
+ghost use Rattle.db_changes.specs.Touched.{AreCommitted, Covers};
 ghost use Rattle.db_store.specs.Log.{commit_between};
 ghost use Rattle.dl_codec.specs.declared.links.BranchPhase.TheVariants as phases;
 ghost use Rattle.fm_branch.specs.Shown.{shown};
@@ -21,11 +22,11 @@ ghost use Rattle.meaning_tables.specs.Links.{gives, takes};
 ghost use Rattle.meaning_tables.specs.Links as meant;
 
 use crate::agree::tables_agree;
-use crate::changed::{changed_tables, moved};
 use crate::paths::{give_paths, take_paths};
 use crate::rows::are_drawn;
 use crate::walk::{Passed, commit_after};
 use compare_every::{EveryLink, listed, put_rows};
+use db_moved::moved_links;
 use db_store::Store;
 use dl_base::{LinkRow, List, Memory, Path, Same};
 use dl_codec::BranchPhase;
@@ -47,16 +48,16 @@ struct Known {
 /// ended is Done. No transaction of a commit, nor of its links, is of a later opening than the last. The links after each commit have
 /// distinct paths. No two commits have links of one number that differ in their paths or options.
 ///
-/// It costs the changes of each commit, and n log n in the number of its tables. Of the tables that it changed, and no others, it
-/// costs what `gives_takes` does before and after it, and a look at each row where they have links: a link whose path is another
-/// under the same number is neither taken away nor added. Each link that is taken away or added costs a logarithm.
+/// It costs, for each commit, its changes, the names of its tables, and for each link of the rows that it touched a logarithm, and a
+/// look for its number in each table: a link whose path is another under the same number is neither taken away nor added. Where a
+/// commit makes or drops a table, these are all its rows.
 pub fn commits_fit(
     alloc: Global,
     store: &Store,
     branches: &Branches,
 ) -> Result<Option<EveryLink>, Memory>
     requires moved { HaveMoved [] store.now.rows.commits }
-    requires steps { AreSteps 1 [] store.now.rows.commits }
+    requires fit { EachCommit (λ c. Fits c.tables) store.now.rows.commits }
     ensures { IfOk result (λ every. CommitsFit store.now.rows branches.now.links.table every) }
 {
     let mut before = Tables::empty(alloc);
@@ -66,21 +67,18 @@ pub fn commits_fit(
     };
     for index in 0..store.commits() {
         let passed = commit_after(store, index, &before)?;
-        if !commit_fits(
-            alloc,
-            store,
-            branches,
-            &before,
-            index + 1,
-            &passed,
-            &mut known,
-        )? {
+        if !commit_fits(alloc, store, branches, &before, &passed, &mut known)? {
             drop(passed);
             drop(before);
             drop(known);
             return Ok(None);
         }
-        let Passed { tables, .. } = passed;
+        let Passed {
+            tables,
+            touched,
+            ..
+        } = passed;
+        drop(touched);
         before = tables;
     }
     drop(before);
@@ -89,19 +87,19 @@ pub fn commits_fit(
     Ok(Some(listed(alloc, rows)?))
 }
 
-// Whether the commit of a number fits, from the tables before it and what is known then; what is known goes on to it.
+// Whether a commit fits, from the tables before it and what is known then; what is known goes on to it.
 fn commit_fits(
     alloc: Global,
     store: &Store,
     branches: &Branches,
     before: &Tables,
-    number: u64,
     passed: &Passed,
     known: &mut Known,
 ) -> Result<bool, Memory>
-    requires step { IsStep number before.now passed.now.tables }
-    requires before { Fits before.now }
-    ensures fits { IfOk result (λ fits. Decides fits (StepFits store.now.rows branches.now.links.table number (contains (slice_cmp nat_cmp) known.old.paths) (get (slice_cmp nat_cmp) known.old.rows) (commit_between before.now passed.now.tx passed.now.branch passed.now.tables))) }
+    requires has { AreKnown (get (slice_cmp nat_cmp) known.old.rows) before.now }
+    requires covers { Covers passed.now.touched before.now passed.now.tables }
+    requires committed { AreCommitted passed.now.tables }
+    ensures fits { IfOk result (λ fits. Decides fits (StepFits store.now.rows branches.now.links.table (contains (slice_cmp nat_cmp) known.old.paths) (get (slice_cmp nat_cmp) known.old.rows) (commit_between before.now passed.now.tx passed.now.branch passed.now.tables))) }
     ensures paths { IfOk result (λ fits. fits ≡ true → (q : List ℕ) → contains (slice_cmp nat_cmp) known.new.paths q ≡ with_paths (takes before.now passed.now.tables) (without_paths (gives before.now passed.now.tables) (contains (slice_cmp nat_cmp) known.old.paths)) q) }
     ensures rows { IfOk result (λ fits. fits ≡ true → (n : List ℕ) → get (slice_cmp nat_cmp) known.new.rows n ≡ first_row (get (slice_cmp nat_cmp) known.old.rows n) (numbered (takes before.now passed.now.tables) n)) }
 {
@@ -112,38 +110,38 @@ fn commit_fits(
     if !is_done_at(store.is_ended(passed.tx), branch) {
         return Ok(false);
     }
-    let touched = changed_tables(alloc, number, &passed.tables)?;
-    let (gives, takes) = moved(alloc, number, before, &passed.tables, &touched)?;
+    let (gives, takes) = moved_links(alloc, before, &passed.tables, &passed.touched)?;
     if !is_branch(passed.branch, &gives, &takes, branch) {
-        drop(touched);
         drop(gives);
         drop(takes);
         return Ok(false);
     }
-    let fits = links_fit(store.opening(), &touched, &gives, &takes, known);
-    drop(touched);
+    let fits = links_fit(store.opening(), before, passed, &gives, &takes, known);
     drop(gives);
     drop(takes);
     fits
 }
 
-// Whether the links after a commit fit what is known before it, from the tables that it changed and the links that it gave and took;
-// what is known goes on to them.
+// Whether the links after a commit fit what is known before it, from the links that it gave and took; what is known goes on to them.
 fn links_fit(
     opening: u32,
-    touched: &Tables,
+    before: &Tables,
+    passed: &Passed,
     gives: &List<LinkRow>,
     takes: &List<LinkRow>,
     known: &mut Known,
 ) -> Result<bool, Memory>
-    ensures fit { IfOk result (λ fit. fit ≡ (are_drawn opening takes.now && all_agree (get (slice_cmp nat_cmp) known.old.rows) (meant.links touched.now) && are_free (without_paths gives.now (contains (slice_cmp nat_cmp) known.old.paths)) takes.now)) }
+    requires has { AreKnown (get (slice_cmp nat_cmp) known.old.rows) before.now }
+    requires covers { Covers passed.now.touched before.now passed.now.tables }
+    requires committed { AreCommitted passed.now.tables }
+    ensures fit { IfOk result (λ fit. fit ≡ (are_drawn opening takes.now && all_agree (get (slice_cmp nat_cmp) known.old.rows) (meant.links passed.now.tables) && are_free (without_paths gives.now (contains (slice_cmp nat_cmp) known.old.paths)) takes.now)) }
     ensures paths { IfOk result (λ fit. fit ≡ true → (q : List ℕ) → contains (slice_cmp nat_cmp) known.new.paths q ≡ with_paths takes.now (without_paths gives.now (contains (slice_cmp nat_cmp) known.old.paths)) q) }
     ensures rows { IfOk result (λ fit. fit ≡ true → (n : List ℕ) → get (slice_cmp nat_cmp) known.new.rows n ≡ first_row (get (slice_cmp nat_cmp) known.old.rows n) (numbered takes.now n)) }
 {
     if !are_drawn(opening, takes) {
         return Ok(false);
     }
-    if !tables_agree(&known.rows, touched) {
+    if !tables_agree(&known.rows, before, &passed.tables, &passed.touched) {
         return Ok(false);
     }
     give_paths(&mut known.paths, gives);

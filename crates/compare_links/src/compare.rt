@@ -19,9 +19,9 @@ use std::alloc::Global;
 /// gave and took, the branches in doubt, the numbers of transactions, the paths and the numbers of links, and what is held after
 /// settling; None exactly where they do not. The error is want of memory.
 ///
-/// It costs the changes of each commit, and n log n in the number of its tables; of the tables that it changed, what `gives_takes`
-/// does before and after it, and a look at each row where they have links; a logarithm for each link that a commit took away or
-/// added; n log n in what branches give and take and in what is held; and a look at each row of the last tables.
+/// It costs, for each commit, its changes, the names of its tables, and for each link of the rows that it touched a logarithm, and a
+/// look for its number in each table; no other link is met. Beside that it costs n log n in what branches give and take and in what is
+/// held, and a look at each row of the last tables, once.
 pub fn links_compare(
     alloc: Global,
     store: &Store,

@@ -6,7 +6,6 @@
 mod agree;
 mod apart;
 mod branches;
-mod changed;
 mod commits;
 mod compare;
 mod held;

@@ -23,13 +23,12 @@ made_as {E} r tx branch changes told handles kept rooms same other of =
     subst (λ (cs : List TableChange). IfOk r (λ made. made ≡ making tx branch cs kept rooms)) same
     (subst (λ (hs : List Change). IfOk r (λ made. made ≡ making tx branch changes hs rooms)) other of)
 
-pub is-made : (tx : ℕ) (branch : Bool) (changes : List TableChange) (handles again : List Change) (rooms : ℕ) (bytes : List ℕ)
-    → bytes ≡ rows_record.spelling (records.Commit tx 0 branch changes) → rows_record.fits (records.Commit tx 0 branch changes) → changes_in bytes ≡ changes → again ≡ handles
-    → new_in handles ≤ rooms * most_tables → 1 ≤ rooms → NewLast handles → IsMade (making tx branch (changes_in bytes) handles rooms) bytes again
-is-made tx branch changes handles again rooms bytes spelled fit read same few some last = record {
+pub is-made : (tx : ℕ) (branch : Bool) (changes : List TableChange) (handles : List Change) (rooms : ℕ) (bytes : List ℕ)
+    → bytes ≡ rows_record.spelling (records.Commit tx 0 branch changes) → rows_record.fits (records.Commit tx 0 branch changes) → changes_in bytes ≡ changes
+    → new_in handles ≤ rooms * most_tables → 1 ≤ rooms → NewLast handles → IsMade (making tx branch (changes_in bytes) handles rooms) bytes
+is-made tx branch changes handles rooms bytes spelled fit read few some last = record {
   body = spelled ∙ ap (λ (cs : List TableChange). rows_record.spelling (records.Commit tx 0 branch cs)) (sym read);
   fits = subst (λ (cs : List TableChange). rows_record.fits (records.Commit tx 0 branch cs)) (sym read) fit;
-  again = same;
   few = few;
   some = some;
   order = last;

@@ -14,18 +14,18 @@ use Rattle.db_changes.specs.Handles.{dropped_handle, fate_in, handles, kept_hand
 none_some : (t : Rows) → Some t ≡ None → ⊥
 none_some t e = cc
 
-other_way : (m n : List ℕ) → bytes_eq m n ≡ false → bytes_eq n m ≡ false
+pub other_way : (m n : List ℕ) → bytes_eq m n ≡ false → bytes_eq n m ≡ false
 other_way m n e = nat_list_eq_equiv.symm n m ∙ e
 
 -- a name that no table has
-absent : (t : List ℕ × Rows) (ts : Tables) (name : List ℕ) → table_of (t ∷ ts) name ≡ None → (bytes_eq name t.0 ≡ false) × (table_of ts name ≡ None)
+pub absent : (t : List ℕ × Rows) (ts : Tables) (name : List ℕ) → table_of (t ∷ ts) name ≡ None → (bytes_eq name t.0 ≡ false) × (table_of ts name ≡ None)
 absent t ts name e = by (bytes_eq name t.0) e
   where
     by : (b : Bool) → cond b (Some t.1) (table_of ts name) ≡ None → (b ≡ false) × (table_of ts name ≡ None)
     by true x = absurd (none_some t.1 x)
     by false x = (refl, x)
 
-absent-more : (t : List ℕ × Rows) (ts : Tables) (name : List ℕ) → bytes_eq name t.0 ≡ false → table_of ts name ≡ None → table_of (t ∷ ts) name ≡ None
+pub absent-more : (t : List ℕ × Rows) (ts : Tables) (name : List ℕ) → bytes_eq name t.0 ≡ false → table_of ts name ≡ None → table_of (t ∷ ts) name ≡ None
 absent-more t ts name other none = past-head t ts name other ∙ none
 
 pub distinct-named : (ts : Tables) → IsDistinct (pointwise ◌==◌) (map (λ t. t.0) ts) → AreNamed ts
@@ -51,7 +51,7 @@ none-without (t ∷ ts) name other none = by (bytes_eq name t.0) (absent t ts ot
     by true two go = two.1
     by false two go = absent-more t (without_table ts name) other two.0 (go two.1)
 
-without-named : (ts : Tables) (name : List ℕ) → AreNamed ts → AreNamed (without_table ts name)
+pub without-named : (ts : Tables) (name : List ℕ) → AreNamed ts → AreNamed (without_table ts name)
 without-named [] name named = tt
 without-named (t ∷ ts) name named = by (bytes_eq name t.0) (without-named ts name named.1)
   where
@@ -67,7 +67,7 @@ none-with (t ∷ ts) name other x none = by (bytes_eq name t.0) (absent t ts oth
     by true two go = absent-more (t.0, x) ts other two.0 two.1
     by false two go = absent-more t (with_table ts name x) other two.0 (go two.1)
 
-with-named : (ts : Tables) (name : List ℕ) (x : Rows) → AreNamed ts → AreNamed (with_table ts name x)
+pub with-named : (ts : Tables) (name : List ℕ) (x : Rows) → AreNamed ts → AreNamed (with_table ts name x)
 with-named [] name x named = tt
 with-named (t ∷ ts) name x named = by (bytes_eq name t.0) (with-named ts name x named.1)
   where

@@ -6,6 +6,8 @@ pub mod Following
 pub mod Gathered
 pub mod Leading
 pub mod Loops
+pub mod NamedRows
+pub mod Naming
 pub mod Nothing
 pub mod Numbers
 pub mod RowsTouched

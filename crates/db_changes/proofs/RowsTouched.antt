@@ -77,7 +77,7 @@ change-other : (rows : List (ℕ × Row)) (m : ℕ) (values : Option (List Value
 change-other rows m None n apart = without-other rows m n apart
 change-other rows m (Some vs) n apart = put-at rows m (record { values = vs }) n ∙ ap (λ b. cond b (Some (record { values = vs })) (row_of rows n)) (other n m apart)
 
-changes-other : (rows : List (ℕ × Row)) (made : List RowChange) (n : ℕ) → has nat_cmp (map (λ c. c.number) made) n ≡ false → row_of (with_row_changes rows made) n ≡ row_of rows n
+pub changes-other : (rows : List (ℕ × Row)) (made : List RowChange) (n : ℕ) → has nat_cmp (map (λ c. c.number) made) n ≡ false → row_of (with_row_changes rows made) n ≡ row_of rows n
 changes-other rows [] n out = refl
 changes-other rows (c ∷ cs) n out =
     let two = none (is_eq (nat_cmp n c.number)) (has nat_cmp (map (λ x. x.number) cs) n) out in

@@ -28,7 +28,7 @@ whole_of sound x fit =
     subst (λ (bytes : List ℕ). rows_record.reading bytes ≡ Some (x, [])) (append-nil (rows_record.spelling x)) (sound.again x [] fit) in
     rw read refl
 
-pub changes_read : IsSound rows_record → (tx : ℕ) (branch : Bool) (changes : List TableChange) (bytes : List ℕ)
-    → bytes ≡ rows_record.spelling (records.Commit tx 0 branch changes) → rows_record.fits (records.Commit tx 0 branch changes) → changes_in bytes ≡ changes
-changes_read sound tx branch changes bytes is fit =
-    ap changes_in is ∙ ap changes_of (whole_of sound (records.Commit tx 0 branch changes) fit)
+pub changes_read : IsSound rows_record → (tx number : ℕ) (branch : Bool) (changes : List TableChange) (bytes : List ℕ)
+    → bytes ≡ rows_record.spelling (records.Commit tx number branch changes) → rows_record.fits (records.Commit tx number branch changes) → changes_in bytes ≡ changes
+changes_read sound tx number branch changes bytes is fit =
+    ap changes_in is ∙ ap changes_of (whole_of sound (records.Commit tx number branch changes) fit)

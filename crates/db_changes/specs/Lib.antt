@@ -1,3 +1,4 @@
 pub mod Handles
 pub mod Made
+pub mod Named
 pub mod Touched

@@ -33,11 +33,10 @@ rooms_for handles = 1 + new_in handles / most_tables
 abbrev pub record_of : Making → ℕ → RowsRecord
 record_of m number = records.Commit m.tx number m.branch m.changes
 
--- what is kept of it: the bytes of its record as commit 0, and the handles twice
-pub record IsMade (m : Making) (bytes : List ℕ) (logged : List Change) : Type 0 where
+-- what is kept of it: the bytes of its record as commit 0, and the handles
+pub record IsMade (m : Making) (bytes : List ℕ) : Type 0 where
   pub body : bytes ≡ rows_record.spelling (record_of m 0)
   pub fits : rows_record.fits (record_of m 0)
-  pub again : logged ≡ m.handles
   -- there is room for its new tables where there is room for so many commits, and they stand behind the other changes
   pub few : new_in m.handles ≤ m.rooms * most_tables
   pub some : 1 ≤ m.rooms

@@ -8,14 +8,14 @@ ghost use Rattle.db_replay.specs.Applying.{new_by, new_in};
 ghost use Rattle.db_replay.specs.Changes.{all_at_version, at_version};
 ghost use Rattle.meaning_merge.specs.Merging.{commit_changes};
 ghost use Rattle.db_changes.specs.Handles.{NewLast, handles};
-ghost use Rattle.db_changes.specs.Made.{record_of, rooms_for};
+ghost use Rattle.db_changes.specs.Made.{changes_in, record_of, rooms_for};
 ghost use Rattle.db_changes.specs.Touched.{Covers};
 
 use crate::TouchedRows;
 use crate::diff::{put_dropped, put_kept, put_new};
 use db_replay::Change;
 use dl_base::limits::MOST_TABLES;
-use dl_base::{Copied, List, Memory};
+use dl_base::{List, Memory};
 use dl_codec::{RowsRecord, TableChange, put_rows_record, rows_records_have_one_spelling};
 use sql_table::Tables;
 use std::alloc::Global;
@@ -31,7 +31,6 @@ pub struct Made {
     // the record as that of commit 0
     body: List<u8>,
     handles: List<Change>,
-    again: List<Change>,
     // contracts alone look at it
     rooms: usize,
 }
@@ -45,7 +44,7 @@ impl Model for Made {
 
     ghost use Rattle.db_changes.specs.Made.{IsMade};
 
-    ghost invariant = { λ m. IsMade (record { tx = m.tx; branch = m.branch; changes = changes_in m.body; handles = m.handles; rooms = m.rooms }) m.body m.again };
+    ghost invariant = { λ m. IsMade (record { tx = m.tx; branch = m.branch; changes = changes_in m.body; handles = m.handles; rooms = m.rooms }) m.body };
 }
 
 impl Made {
@@ -103,13 +102,11 @@ impl Made {
     {
         rows_records_have_one_spelling();
         let body = body_of(alloc, tx, branch, changes)?;
-        let again = copies(&handles)?;
         Ok(Made {
             tx,
             branch,
             body,
             handles,
-            again,
             rooms,
         })
     }
@@ -135,30 +132,22 @@ impl Made {
         self.handles.len() == 0
     }
 
-    /// The body of the record of this commit, and the handles of its tables with its number as version, twice: for the committed
-    /// tables, and for the log of commits. It takes no memory, and costs no row.
-    pub fn parts(self, number: u64) -> (List<u8>, List<Change>, List<Change>)
+    /// The body of the record of this commit, and the handles of its tables with its number as version. It takes no memory, and costs
+    /// no row.
+    pub fn parts(self, number: u64) -> (List<u8>, List<Change>)
         ensures body { result.0 ≡ rows_record.spelling (record_of self number) }
         ensures fits { rows_record.fits (record_of self number) }
+        ensures changes { changes_in result.0 ≡ self.changes }
         ensures handles { result.1 ≡ all_at_version number self.handles }
-        ensures again { result.2 ≡ all_at_version number self.handles }
 
         // There is room for its new tables where there is room for so many commits, and they stand behind all others.
         ensures few { new_in self.handles ≤ self.rooms * most_tables }
         ensures some { 1 ≤ self.rooms }
         ensures order { NewLast self.handles }
     {
-        let Made {
-            body,
-            handles,
-            again,
-            ..
-        } = self;
-        (
-            numbered(body, number),
-            with_version(handles, number),
-            with_version(again, number),
-        )
+        rows_records_have_one_spelling();
+        let Made { body, handles, .. } = self;
+        (numbered(body, number), with_version(handles, number))
     }
 }
 
@@ -246,25 +235,5 @@ fn set_version(change: &mut Change, version: u64)
         Change::Dropped(_) => {}
         Change::Kept(_, table) => table.set_version(version),
         Change::New(_, table) => table.set_version(version),
-    }
-}
-
-fn copies(handles: &List<Change>) -> Result<List<Change>, Memory>
-    ensures { IfOk result (λ made. made ≡ handles.now) }
-{
-    let mut made = List::empty(handles.allocator());
-    for change in handles.as_slice() {
-        made.push(copy_of(change)?)?;
-    }
-    Ok(made)
-}
-
-fn copy_of(change: &Change) -> Result<Change, Memory>
-    ensures { IfOk result (λ made. made ≡ change.now) }
-{
-    match change {
-        Change::Dropped(name) => Ok(Change::Dropped(name.copy()?)),
-        Change::Kept(name, table) => Ok(Change::Kept(name.copy()?, table.copy()?)),
-        Change::New(name, table) => Ok(Change::New(name.copy()?, table.copy()?)),
     }
 }

@@ -1,4 +1,3 @@
-pub mod Applied
 pub mod Bools
 pub mod CellLaws
 pub mod Changing

@@ -9,4 +9,4 @@ mod rows;
 mod standing;
 
 pub use changes::Change;
-pub use replaying::{Replayed, replay};
+pub use replaying::{redo, replay};

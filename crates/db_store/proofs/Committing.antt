@@ -1,20 +1,22 @@
 -- What the fold asks of the commit of what a transaction has made.
 use Rattle.std.proofs.Common.{◌≡◌, ℕ, ◌+◌, ◌/◌, ◌≤◌, ◌^◌, ◌==◌, ◌&&◌, Bool, true, false, cond, List, [], ◌∷◌, ◌++◌, length, Option, Some, None, is_none, refl, sym, ap, subst, ◌∙◌, arith}
-use Rattle.std.proofs.lemmas.Bool.{and_parts}
 use Rattle.meaning_areas.specs.Commits.{Commit, Commits, commit_of, commit_to, fitting, tables_after, with_commit, with_table_changes}
 use Rattle.meaning_merge.specs.Merging.{AreNamed}
 use Rattle.meaning_tables.specs.Fits.{fits}
 use Rattle.meaning_tables.specs.Tables.{Tables}
+use Rattle.dl_codec.specs.declared.rows.TableChange.{TableChange}
+use Rattle.std.specs.Option.{unwrap_or}
+use Rattle.db_changes.proofs.Naming.{changes-named}
 use Rattle.db_changes.specs.Handles.{NewLast}
-use Rattle.db_changes.specs.Made.{Making}
+use Rattle.db_changes.specs.Made.{Making, changes_in}
 use Rattle.db_changes.specs.Touched.{AreCommitted}
 use Rattle.db_replay.specs.Applying.{are_new, new_in}
 use Rattle.db_replay.specs.Changes.{all_at_version, applied}
 use Rattle.db_replay.specs.declared.changes.Change.{Change}
-use Rattle.db_store.proofs.LogLaws.{after-push, none_there}
-use Rattle.db_store.proofs.Named.{all-named, changes-named, last-new, version-count, version-last}
+use Rattle.db_store.proofs.LogLaws.{after-push, length-commits, none_there}
+use Rattle.db_store.proofs.Named.{last-new, version-count, version-last}
 use Rattle.db_store.proofs.Versions.{after-committed, changes-committed, push-committed}
-use Rattle.db_store.specs.Log.{AllCommitted, all_new, commits_from}
+use Rattle.db_store.specs.Log.{AllCommitted, commits_from, redone}
 use Rattle.db_store.specs.Store.{IsTaken, applied_with, committed_with}
 use Rattle.db_store.specs.declared.log.Entry.{Entry}
 
@@ -25,11 +27,17 @@ some-same : {A : Type 0} (t u : A) → Some t ≡ Some u → t ≡ u
 some-same t u e = cc
 
 -- the tables after the entries of a log have different names
-log-named : (before : Tables) (es : List (ℕ × Entry)) → AreNamed before → all_new before es ≡ true → AreNamed (tables_after before (commits_from before es))
-log-named before [] named new = named
-log-named before (e ∷ es) named new =
-    let parts = and_parts (are_new before e.1.changes) (all_new (applied before e.1.changes) es) new in
-    log-named (applied before e.1.changes) es (all-named before e.1.changes named parts.0) parts.1
+
+redone-named : (number : ℕ) (before : Tables) (cs : List TableChange) → AreNamed before → AreNamed (redone number before cs)
+redone-named number before cs named = by (with_table_changes number before cs) refl
+  where
+    by : (o : Option Tables) → with_table_changes number before cs ≡ o → AreNamed (unwrap_or o before)
+    by None e = named
+    by (Some later) e = changes-named number cs before later named e
+
+log-named : (number : ℕ) (before : Tables) (es : List (ℕ × Entry)) → AreNamed before → AreNamed (tables_after before (commits_from number before es))
+log-named number before [] named = named
+log-named number before (e ∷ es) named = let cs = changes_in e.1.body in log-named (number + 1) (redone number before cs) es (redone-named number before cs named)
 
 module _ (r : Commits) (m : Making) where
   abbrev number : ℕ
@@ -69,9 +77,9 @@ module _ (r : Commits) (m : Making) where
       middle false b e is = cc is
 
   -- each new table of its handles is new when its turn comes
-  taken_new : (es : List (ℕ × Entry)) → r.commits ≡ commits_from [] es → all_new [] es ≡ true → NewLast m.handles → IsTaken r m → are_new last hands ≡ true
-  taken_new es is all order taken =
-      let named : AreNamed last = subst (λ (cs : List Commit). AreNamed (tables_after [] cs)) (sym is) (log-named [] es tt all) in
+  taken_new : (es : List (ℕ × Entry)) → r.commits ≡ commits_from 1 [] es → NewLast m.handles → IsTaken r m → are_new last hands ≡ true
+  taken_new es is order taken =
+      let named : AreNamed last = subst (λ (cs : List Commit). AreNamed (tables_after [] cs)) (sym is) (log-named 1 [] es tt) in
       last-new hands last (version-last number m.handles ∙ order) (changes-named number m.changes last (applied_with r m) named (parts taken).1)
 
   -- no table behind it was just made
@@ -80,19 +88,19 @@ module _ (r : Commits) (m : Making) where
 
   -- by what is open of a store
 
-  module _ (es : List (ℕ × Entry)) (opening : ℕ) (ended : List ℕ) (is : record { opening = opening; commits = commits_from [] es; ended = ended } ≡ r) (taken : IsTaken r m) where
-    same : commits_from [] es ≡ r.commits
+  module _ (es : List (ℕ × Entry)) (opening : ℕ) (ended : List ℕ) (is : record { opening = opening; commits = commits_from 1 [] es; ended = ended } ≡ r) (taken : IsTaken r m) where
+    same : commits_from 1 [] es ≡ r.commits
     same = ap (λ (x : Commits). x.commits) is
 
-    module _ (was : Tables) (n : ℕ) (hs : List Change) (at : was ≡ tables_after [] (commits_from [] es)) (count : n ≡ length (commits_from [] es)) (made : hs ≡ all_at_version (n + 1) m.handles) where
+    module _ (was : Tables) (n : ℕ) (hs : List Change) (at : was ≡ tables_after [] (commits_from 1 [] es)) (count : n ≡ length (commits_from 1 [] es)) (made : hs ≡ all_at_version (n + 1) m.handles) where
       hs-is : hs ≡ hands
       hs-is = made ∙ ap (λ (k : ℕ). all_at_version (k + 1) m.handles) (count ∙ ap (λ (cs : List Commit). length cs) same)
 
       was-is : was ≡ last
       was-is = at ∙ ap (λ (cs : List Commit). tables_after [] cs) same
 
-      pub handles_new : all_new [] es ≡ true → NewLast m.handles → are_new was hs ≡ true
-      handles_new all order = ap (λ (cs : List Change). are_new was cs) hs-is ∙ ap (λ (ts : Tables). are_new ts hands) was-is ∙ taken_new es (sym same) all order taken
+      pub handles_new : NewLast m.handles → are_new was hs ≡ true
+      handles_new order = ap (λ (cs : List Change). are_new was cs) hs-is ∙ ap (λ (ts : Tables). are_new ts hands) was-is ∙ taken_new es (sym same) order taken
 
       pub handles_few : (most : ℕ) → new_in m.handles ≤ most → new_in hs ≤ most
       handles_few most few = let more = ap new_in made ∙ version-count (n + 1) m.handles in omega (arith, few, more)
@@ -100,10 +108,19 @@ module _ (r : Commits) (m : Making) where
       leads : applied was hs ≡ applied_with r m
       leads = ap (λ (cs : List Change). applied was cs) hs-is ∙ ap (λ (ts : Tables). applied ts hands) was-is
 
-      module _ (tx : ℕ) (branch : Bool) (more : List Commit) (grown : more ≡ commits_from [] es ++ commit_to (commits_from [] es) tx branch (applied was hs) ∷ []) where
+      -- its record leads where its handles do
+      pub body_leads : (body : List ℕ) → changes_in body ≡ m.changes → with_table_changes (length es + 1) was (changes_in body) ≡ Some (applied was hs)
+      body_leads body read =
+          let next : length es + 1 ≡ number = omega (arith, length-commits 1 [] es, ap (λ (cs : List Commit). length cs) same) in
+          ap (λ (k : ℕ). with_table_changes k was (changes_in body)) next
+          ∙ ap (λ (ts : Tables). with_table_changes number ts (changes_in body)) was-is
+          ∙ ap (λ (cs : List TableChange). with_table_changes number last cs) read
+          ∙ (parts taken).1 ∙ ap (λ (ts : Tables). Some ts) (sym leads)
+
+      module _ (tx : ℕ) (branch : Bool) (more : List Commit) (grown : more ≡ commits_from 1 [] es ++ commit_to (commits_from 1 [] es) tx branch (applied was hs) ∷ []) where
         pub commits_with : tx ≡ m.tx → branch ≡ m.branch → record { opening = opening; commits = more; ended = ended } ≡ committed_with r m
         commits_with tx-is branch-is =
-            let cs = commits_from [] es in
+            let cs = commits_from 1 [] es in
             ap (λ (l : List Commit). record { opening = opening; commits = l; ended = ended }) (
             grown
             ∙ ap (λ (x : ℕ). cs ++ commit_to cs x branch (applied was hs) ∷ []) tx-is
@@ -111,8 +128,8 @@ module _ (r : Commits) (m : Making) where
             ∙ ap (λ (x : Tables). cs ++ commit_to cs m.tx m.branch x ∷ []) leads)
             ∙ ap (λ (x : Commits). with_commit x (commit_to x.commits m.tx m.branch (applied_with r m))) is
 
-        pub commits_committed : AllCommitted (commits_from [] es) → AllCommitted more
+        pub commits_committed : AllCommitted (commits_from 1 [] es) → AllCommitted more
         commits_committed each =
             subst (λ (cs : List Commit). AllCommitted cs) (sym grown)
-            (push-committed (commits_from [] es) (commit_to (commits_from [] es) tx branch (applied was hs)) each
+            (push-committed (commits_from 1 [] es) (commit_to (commits_from 1 [] es) tx branch (applied was hs)) each
             (subst (λ (ts : Tables). AreCommitted ts) (sym leads) (taken_committed (subst (λ (cs : List Commit). AllCommitted cs) same each) taken)))

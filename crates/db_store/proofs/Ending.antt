@@ -133,20 +133,20 @@ can_end r tx taken = by (has_branch (commit_of tx r.commits) && not (has_number 
 
 -- a commit
 
-pub commit_more : (es all : List (ℕ × Entry)) (ended : List ℕ) (commit : Commit) → commits_from [] all ≡ commits_from [] es ++ commit ∷ [] → open_branches ended (commits_from [] all) ≤ open_branches ended (commits_from [] es) + 1
-commit_more es all ended commit grown = subst (λ (cs : List Commit). open_branches ended cs ≤ open_branches ended (commits_from [] es) + 1) (sym grown) (open-push ended (commits_from [] es) commit)
+pub commit_more : (es all : List (ℕ × Entry)) (ended : List ℕ) (commit : Commit) → commits_from 1 [] all ≡ commits_from 1 [] es ++ commit ∷ [] → open_branches ended (commits_from 1 [] all) ≤ open_branches ended (commits_from 1 [] es) + 1
+commit_more es all ended commit grown = subst (λ (cs : List Commit). open_branches ended cs ≤ open_branches ended (commits_from 1 [] es) + 1) (sym grown) (open-push ended (commits_from 1 [] es) commit)
 
-pub log_few : (es : List (ℕ × Entry)) (ended : List ℕ) → open_branches ended (commits_from [] es) ≤ length es
-log_few es ended = let few = open-few ended (commits_from [] es) in omega (arith, few, length-commits [] es)
+pub log_few : (es : List (ℕ × Entry)) (ended : List ℕ) → open_branches ended (commits_from 1 [] es) ≤ length es
+log_few es ended = let few = open-few ended (commits_from 1 [] es) in omega (arith, few, length-commits 1 [] es)
 
 length-more : {A : Type 0} (xs : List A) (x : A) → length (xs ++ x ∷ []) ≡ length xs + 1
 length-more [] x = refl
 length-more (y ∷ ys) x = omega (arith, length-more ys x)
 
-pub log_more : (es all : List (ℕ × Entry)) (e : ℕ × Entry) (ended : List ℕ) (spare : ℕ) → all ≡ es ++ e ∷ [] → length es + 1 ≤ spare → open_branches ended (commits_from [] all) ≤ spare
+pub log_more : (es all : List (ℕ × Entry)) (e : ℕ × Entry) (ended : List ℕ) (spare : ℕ) → all ≡ es ++ e ∷ [] → length es + 1 ≤ spare → open_branches ended (commits_from 1 [] all) ≤ spare
 log_more es all e ended spare grown room = let few = log_few all ended in omega (arith, few, room, ap length grown, length-more es e)
 
-pub room_same : (es fs : List (ℕ × Entry)) (ns ms : List ℕ) (spare more : ℕ) → fs ≡ es → ms ≡ ns → spare ≤ more → open_branches ns (commits_from [] es) ≤ spare → open_branches ms (commits_from [] fs) ≤ more
+pub room_same : (es fs : List (ℕ × Entry)) (ns ms : List ℕ) (spare more : ℕ) → fs ≡ es → ms ≡ ns → spare ≤ more → open_branches ns (commits_from 1 [] es) ≤ spare → open_branches ms (commits_from 1 [] fs) ≤ more
 room_same es fs ns ms spare more same others le held =
-    subst (λ (l : List (ℕ × Entry)). open_branches ms (commits_from [] l) ≤ more) (sym same)
-    (subst (λ (l : List ℕ). open_branches l (commits_from [] es) ≤ more) (sym others) (omega (arith, le, held)))
+    subst (λ (l : List (ℕ × Entry)). open_branches ms (commits_from 1 [] l) ≤ more) (sym same)
+    (subst (λ (l : List ℕ). open_branches l (commits_from 1 [] es) ≤ more) (sym others) (omega (arith, le, held)))

@@ -1,39 +1,30 @@
 -- One more record of a fold.
-use Rattle.std.proofs.Common.{◌≡◌, ℕ, ◌+◌, ◌<◌, ◌≤◌, List, [], ◌∷◌, ◌++◌, length, get_or, take, drop, sym, ap, ◌∙◌, arith, Option, Some, None, Ok, Err}
-use Rattle.std.proofs.lemmas.List.{take_more, drop_more, take-append-drop}
+use Rattle.std.proofs.Common.{◌≡◌, ℕ, ◌+◌, ◌≤◌, List, ◌∷◌, length, sym, ap, ◌∙◌, arith, Option, Some, None, Ok, Err}
 use Rattle.std.specs.Option.{ok_or}
-use Rattle.dl_journal.proofs.Records.{size-push}
 use Rattle.dl_journal.specs.Records.{size}
 use Rattle.meaning_areas.proofs.FoldLaws.{folded-err}
 use Rattle.meaning_areas.specs.Areas.{rows_body, rows_of}
 use Rattle.meaning_areas.specs.Commits.{Commits}
 use Rattle.meaning_areas.specs.Folds.{folded}
 
-size-append : (xs ys : List (List ℕ)) → size (xs ++ ys) ≡ size xs + size ys
-size-append [] ys = omega arith
-size-append (x ∷ xs) ys = omega (arith, size-append xs ys)
+module _ (all left rest : List (List ℕ)) (body : List ℕ) (place : ℕ) (is : left ≡ body ∷ rest) where
+  module _ (s : Commits) (so_far : folded rows_body place (Ok s) left ≡ rows_of all) where
+    next : rows_of all ≡ folded rows_body (place + 9 + length body) (ok_or (rows_body s body) place) rest
+    next = sym so_far ∙ ap (λ (l : List (List ℕ)). folded rows_body place (Ok s) l) is
 
-module _ (items : List (List ℕ)) (i place : ℕ) (body : List ℕ) (d : List ℕ) (lt : i < length items) (is : body ≡ get_or items i d) where
-  module _ (s : Commits) (so_far : folded rows_body place (Ok s) (drop i items) ≡ rows_of items) where
-    next : rows_of items ≡ folded rows_body (place + 9 + length body) (ok_or (rows_body s body) place) (drop (i + 1) items)
-    next =
-        sym so_far ∙ ap (λ (l : List (List ℕ)). folded rows_body place (Ok s) l) (drop_more items i d lt)
-        ∙ ap (λ (b : List ℕ). folded rows_body place (Ok s) (b ∷ drop (i + 1) items)) (sym is)
-
-    pub refused : rows_body s body ≡ None → rows_of items ≡ Err place
+    pub refused : rows_body s body ≡ None → rows_of all ≡ Err place
     refused none =
-        next ∙ ap (λ (o : Option Commits). folded rows_body (place + 9 + length body) (ok_or o place) (drop (i + 1) items)) none
-        ∙ folded-err rows_body (place + 9 + length body) place (drop (i + 1) items)
+        next ∙ ap (λ (o : Option Commits). folded rows_body (place + 9 + length body) (ok_or o place) rest) none
+        ∙ folded-err rows_body (place + 9 + length body) place rest
 
-    pub accepted : (later : Commits) → rows_body s body ≡ Some later → folded rows_body (place + (9 + length body)) (Ok later) (drop (i + 1) items) ≡ rows_of items
+    pub accepted : (later : Commits) → rows_body s body ≡ Some later → folded rows_body (place + (9 + length body)) (Ok later) rest ≡ rows_of all
     accepted later some =
-        ap (λ (at : ℕ). folded rows_body at (Ok later) (drop (i + 1) items)) (omega arith)
-        ∙ ap (λ (o : Option Commits). folded rows_body (place + 9 + length body) (ok_or o place) (drop (i + 1) items)) (sym some)
+        ap (λ (at : ℕ). folded rows_body at (Ok later) rest) (omega arith)
+        ∙ ap (λ (o : Option Commits). folded rows_body (place + 9 + length body) (ok_or o place) rest) (sym some)
         ∙ sym next
 
-  pub place_next : place ≡ size (take i items) → place + (9 + length body) ≡ size (take (i + 1) items)
-  place_next at =
-      omega (arith, at, size-push (take i items) (get_or items i d), ap size (take_more items i d lt), ap length is)
+  pub place_next : place + size left ≡ size all → place + (9 + length body) + size rest ≡ size all
+  place_next at = omega (arith, at, ap size is)
 
-  pub place_below : place ≡ size (take i items) → place + (9 + length body) ≤ size items
-  place_below at = omega (arith, place_next at, size-append (take (i + 1) items) (drop (i + 1) items), ap size (take-append-drop (i + 1) items))
+  pub place_below : place + size left ≡ size all → place + (9 + length body) ≤ size all
+  place_below at = omega (arith, at, ap size is)

@@ -1,5 +1,5 @@
 -- What the fold makes of a record, by what is asked of it.
-use Rattle.std.proofs.Common.{◌≡◌, ℕ, ◌+◌, ◌/◌, ◌<◌, ◌^◌, ◌==◌, ◌&&◌, Bool, true, false, not, cond, List, [], ◌∷◌, ◌++◌, length, Option, Some, None, is_none, nat_eq, refl, sym, ap, ◌∙◌, arith}
+use Rattle.std.proofs.Common.{◌≡◌, ℕ, ◌+◌, ◌/◌, ◌^◌, ◌==◌, ◌&&◌, Bool, true, false, not, cond, List, [], ◌∷◌, ◌++◌, length, Option, Some, None, is_none, nat_eq, refl, sym, ap, ◌∙◌, arith}
 use Rattle.std.proofs.lemmas.Bool.{eq-eqb, ne_eqb}
 use Rattle.std.proofs.lemmas.Bool.Decides.{nat_tests}
 use Rattle.std.specs.Option.{option_map}
@@ -9,11 +9,10 @@ use Rattle.meaning_tables.specs.Fits.{fits}
 use Rattle.meaning_tables.specs.Tables.{Tables}
 use Rattle.db_replay.specs.Replaying.{fitted}
 use Rattle.std.specs.Map.{lookup}
-use Rattle.db_replay.specs.Applying.{are_new}
-use Rattle.db_replay.specs.Changes.{applied}
-use Rattle.db_replay.specs.declared.changes.Change.{Change}
-use Rattle.db_store.proofs.LogLaws.{none_yet, one-after, one-committed, one-new}
-use Rattle.db_store.specs.Log.{all_new, commits_from, has_branch}
+use Rattle.db_changes.specs.Made.{changes_in}
+use Rattle.db_store.proofs.LogLaws.{length-commits, none_yet, one-after, one-committed}
+use Rattle.db_store.proofs.Versions.{fitted-some}
+use Rattle.db_store.specs.Log.{commits_from, has_branch}
 use Rattle.db_store.specs.declared.log.Entry.{Entry}
 
 -- an opening
@@ -74,36 +73,47 @@ module _ (r : Commits) (tx number : ℕ) (branch : Bool) (made : List TableChang
       ∙ ap (λ (ts : Tables). after (fitted (with_table_changes number ts made))) (sym at)
       ∙ ap after (sym is)
 
+-- the next commit's number
+pub next_number : (r : Commits) (tx number : ℕ) → ((number == length r.commits + 1) && is_none (commit_of tx r.commits) && (tx / 2 ^ 32 == r.opening)) ≡ true → number ≡ length r.commits + 1
+next_number r tx number e = is (first (number == length r.commits + 1) (is_none (commit_of tx r.commits)) (tx / 2 ^ 32 == r.opening) e)
+  where
+    first : (a b d : Bool) → (a && b && d) ≡ true → a ≡ true
+    first true b d e = refl
+    first false b d e = cc e
+
+    is : (number == length r.commits + 1) ≡ true → number ≡ length r.commits + 1
+    is same = grind (arith, nat_tests)
+
 -- a commit, by what is open of the fold
 module _ (r : Commits) (tx number : ℕ) (branch : Bool) (made : List TableChange) (opening : ℕ) (es : List (ℕ × Entry)) (ended : List ℕ)
-    (is : record { opening = opening; commits = commits_from [] es; ended = ended } ≡ r) (was : Tables) (at : was ≡ tables_after [] (commits_from [] es)) where
+    (is : record { opening = opening; commits = commits_from 1 [] es; ended = ended } ≡ r) (was : Tables) (at : was ≡ tables_after [] (commits_from 1 [] es)) where
   last : was ≡ tables_after [] r.commits
   last = at ∙ ap (λ (x : Commits). tables_after [] x.commits) is
 
   pub commits_unfit : is_next r tx number branch made ≡ true → None ≡ fitted (with_table_changes number was made) → commits_on r tx number branch made ≡ None
   commits_unfit e none = commits_next r tx number branch made was None e last none
 
-  pub commits_fit : (later : Tables) (handles : List Change) (all : List (ℕ × Entry)) → is_next r tx number branch made ≡ true → Some later ≡ fitted (with_table_changes number was made)
-      → applied was handles ≡ later → all ≡ es ++ (tx, record { branch = branch; changes = handles }) ∷ []
-      → commits_on r tx number branch made ≡ Some (record { opening = opening; commits = commits_from [] all; ended = ended })
-  commits_fit later handles all e fit leads grown =
+  -- the record of the commit leads to the tables after it
+  pub record_leads : (later : Tables) (body : List ℕ) → is_next r tx number branch made ≡ true → Some later ≡ fitted (with_table_changes number was made) → changes_in body ≡ made
+      → with_table_changes (length es + 1) was (changes_in body) ≡ Some later
+  record_leads later body e fit same =
+      ap (λ (n : ℕ). with_table_changes n was (changes_in body)) numbered
+      ∙ ap (λ (cs : List TableChange). with_table_changes number was cs) same
+      ∙ fitted-some (with_table_changes number was made) later fit
+    where
+      numbered : length es + 1 ≡ number
+      numbered = omega (arith, next_number r tx number e, ap (λ (x : Commits). length x.commits) is, length-commits 1 [] es)
+
+  pub commits_fit : (later : Tables) (body : List ℕ) (all : List (ℕ × Entry)) → is_next r tx number branch made ≡ true → Some later ≡ fitted (with_table_changes number was made)
+      → changes_in body ≡ made → all ≡ es ++ (tx, record { branch = branch; body = body }) ∷ []
+      → commits_on r tx number branch made ≡ Some (record { opening = opening; commits = commits_from 1 [] all; ended = ended })
+  commits_fit later body all e fit same grown =
       commits_next r tx number branch made was (Some later) e last fit
       ∙ ap (λ (x : Commits). Some (with_commit x (commit_to x.commits tx branch later))) (sym is)
       ∙ ap (λ (cs : List Commit). Some (record { opening = opening; commits = cs; ended = ended }))
-      (sym (ap (λ (l : List (ℕ × Entry)). commits_from [] l) grown ∙ one-committed es (tx, record { branch = branch; changes = handles }) was later at leads))
+      (sym (ap (λ (l : List (ℕ × Entry)). commits_from 1 [] l) grown ∙ one-committed es (tx, record { branch = branch; body = body }) was later at (record_leads later body e fit same)))
 
--- a commit's number is above 0
-pub next_above : (r : Commits) (tx number : ℕ) → ((number == length r.commits + 1) && is_none (commit_of tx r.commits) && (tx / 2 ^ 32 == r.opening)) ≡ true → 0 < number
-next_above r tx number e = at-least (first (number == length r.commits + 1) (is_none (commit_of tx r.commits)) (tx / 2 ^ 32 == r.opening) e)
-  where
-    first : (a b d : Bool) → (a && b && d) ≡ true → a ≡ true
-    first true b d e = refl
-    first false b d e = cc e
-
-    at-least : (number == length r.commits + 1) ≡ true → 0 < number
-    at-least is = grind (arith, nat_tests)
-
-pub none_open : (r : Commits) (tx number opening : ℕ) (es : List (ℕ × Entry)) (ended : List ℕ) → record { opening = opening; commits = commits_from [] es; ended = ended } ≡ r
+pub none_open : (r : Commits) (tx number opening : ℕ) (es : List (ℕ × Entry)) (ended : List ℕ) → record { opening = opening; commits = commits_from 1 [] es; ended = ended } ≡ r
     → ((number == length r.commits + 1) && is_none (commit_of tx r.commits) && (tx / 2 ^ 32 == r.opening)) ≡ true → lookup (λ k. nat_eq tx k) es ≡ None
 none_open r tx number opening es ended is e =
     none_yet tx es (ap (λ (x : Commits). is_none (commit_of tx x.commits)) is ∙ middle (number == length r.commits + 1) (is_none (commit_of tx r.commits)) (tx / 2 ^ 32 == r.opening) e)
@@ -113,10 +123,6 @@ none_open r tx number opening es ended is e =
     middle true false d e = cc e
     middle false b d e = cc e
 
-pub after_all : (es all : List (ℕ × Entry)) (tx : ℕ) (entry : Entry) (was later : Tables) → all ≡ es ++ (tx, entry) ∷ [] → was ≡ tables_after [] (commits_from [] es) → applied was entry.changes ≡ later
-    → later ≡ tables_after [] (commits_from [] all)
-after_all es all tx entry was later grown at leads = one-after es (tx, entry) was later at leads ∙ ap (λ (l : List (ℕ × Entry)). tables_after [] (commits_from [] l)) (sym grown)
-
-pub new_all : (es all : List (ℕ × Entry)) (tx : ℕ) (entry : Entry) (was : Tables) → all ≡ es ++ (tx, entry) ∷ [] → was ≡ tables_after [] (commits_from [] es) → all_new [] es ≡ true → are_new was entry.changes ≡ true
-    → all_new [] all ≡ true
-new_all es all tx entry was grown at old new = ap (λ (l : List (ℕ × Entry)). all_new [] l) grown ∙ one-new es (tx, entry) was at old new
+pub after_all : (es all : List (ℕ × Entry)) (tx : ℕ) (entry : Entry) (was later : Tables) → all ≡ es ++ (tx, entry) ∷ [] → was ≡ tables_after [] (commits_from 1 [] es)
+    → with_table_changes (length es + 1) was (changes_in entry.body) ≡ Some later → later ≡ tables_after [] (commits_from 1 [] all)
+after_all es all tx entry was later grown at leads = one-after es (tx, entry) was later at leads ∙ ap (λ (l : List (ℕ × Entry)). tables_after [] (commits_from 1 [] l)) (sym grown)

@@ -3,7 +3,6 @@ pub mod Ending
 pub mod Folding
 pub mod HistoryLaws
 pub mod Known
-pub mod Left
 pub mod LogLaws
 pub mod Named
 pub mod Numbers

@@ -1,7 +1,7 @@
 -- No table after a commit was just made: each has the number of the commit that last changed it.
-use Rattle.std.proofs.Common.{◌≡◌, ℕ, ◌<◌, ◌==◌, Bool, true, false, not, cond, bytes_eq, List, [], ◌∷◌, ◌++◌, zero, suc, Option, Some, None, Result, Ok, Err, IfOk, IfSome, refl, sym, ap, subst, ◌∙◌, arith}
+use Rattle.std.proofs.Common.{◌≡◌, ℕ, ◌<◌, ◌==◌, Bool, true, false, not, cond, bytes_eq, List, [], ◌∷◌, ◌++◌, length, zero, suc, ◌+◌, Option, Some, None, Result, Ok, Err, IfOk, IfSome, refl, sym, ap, subst, ◌∙◌, arith}
 use Rattle.std.specs.List.{list_all}
-use Rattle.std.specs.Option.{option_and_then}
+use Rattle.std.specs.Option.{option_and_then, unwrap_or}
 use Rattle.std.proofs.lemmas.Bool.{and_from, and_parts}
 use Rattle.std.proofs.lemmas.Bool.Decides.{nat_tests}
 use Rattle.dl_base.specs.declared.column.Column.{Column}
@@ -13,11 +13,12 @@ use Rattle.meaning_areas.specs.Commits.{Commit, add_table, changed_rows, columns
 use Rattle.meaning_areas.specs.Stands.{past}
 use Rattle.meaning_tables.specs.Fits.{fits}
 use Rattle.meaning_tables.specs.Tables.{Rows, Tables, table_of, with_table, without_table}
-use Rattle.db_changes.specs.Touched.{AreCommitted, are_committed}
-use Rattle.db_replay.specs.Changes.{applied}
+use Rattle.db_changes.specs.Made.{changes_in}
+use Rattle.db_changes.proofs.Covering.{covers-itself}
+use Rattle.db_changes.specs.Touched.{AreCommitted, Covers, Touched, are_committed}
 use Rattle.db_replay.specs.Replaying.{fitted}
 use Rattle.db_store.proofs.LogLaws.{one-committed}
-use Rattle.db_store.specs.Log.{AllCommitted, commits_from}
+use Rattle.db_store.specs.Log.{AllCommitted, commits_from, redone}
 use Rattle.db_store.specs.declared.log.Entry.{Entry}
 
 some-none : {A : Type 0} (t : A) → None ≡ Some t → ⊥
@@ -126,15 +127,28 @@ pub past_result : {E : Type 0} (r : Result (Option Tables) E) (cs : List Commit)
 past_result (Ok o) cs n each is = past-all cs n o each is
 past_result (Err e) cs n each is = tt
 
+pub past_committed : (cs : List Commit) (n : ℕ) (ts : Tables) → AllCommitted cs → Some ts ≡ past [] cs n → AreCommitted ts
+past_committed cs n ts each is = past-committed [] cs n ts refl each (sym is)
+
 pub push-committed : (cs : List Commit) (c : Commit) → AllCommitted cs → AreCommitted c.tables → AllCommitted (cs ++ c ∷ [])
 push-committed [] c each one = and_from (are_committed c.tables) true one refl
 push-committed (d ∷ ds) c each one =
     let two = and_parts (are_committed d.tables) (list_all (λ x. are_committed x.tables) ds) each in
     and_from (are_committed d.tables) (list_all (λ x. are_committed x.tables) (ds ++ c ∷ [])) two.0 (push-committed ds c two.1 one)
 
+-- the rows that changes name, beside which tables made again have the rows of those before
+
+pub covers_redone : (number : ℕ) (touched : Touched) (before tables : Tables) (cs : List TableChange)
+    → ((version : ℕ) (after : Tables) → with_table_changes version before cs ≡ Some after → Covers touched before after) → tables ≡ redone number before cs → Covers touched before tables
+covers_redone number touched before tables cs of is = subst (λ (ts : Tables). Covers touched before ts) (sym is) (by (with_table_changes number before cs) refl)
+  where
+    by : (o : Option Tables) → with_table_changes number before cs ≡ o → Covers touched before (unwrap_or o before)
+    by None e = covers-itself touched before
+    by (Some after) e = of number after e
+
 -- a replayed commit
 
-fitted-some : (o : Option Tables) (later : Tables) → Some later ≡ fitted o → o ≡ Some later
+pub fitted-some : (o : Option Tables) (later : Tables) → Some later ≡ fitted o → o ≡ Some later
 fitted-some None later e = absurd (some-none later (sym e))
 fitted-some (Some ts) later e = by (fits ts) e
   where
@@ -142,10 +156,10 @@ fitted-some (Some ts) later e = by (fits ts) e
     by true is = sym is
     by false is = absurd (some-none later (sym is))
 
-pub replay_committed : (es all : List (ℕ × Entry)) (tx number : ℕ) (entry : Entry) (was later : Tables) (made : List TableChange) → 0 < number → all ≡ es ++ (tx, entry) ∷ []
-    → was ≡ tables_after [] (commits_from [] es) → AllCommitted (commits_from [] es) → Some later ≡ fitted (with_table_changes number was made) → applied was entry.changes ≡ later → AllCommitted (commits_from [] all)
-replay_committed es all tx number entry was later made lt grown at each fit leads =
-    let before : AreCommitted was = subst (λ (ts : Tables). AreCommitted ts) (sym at) (after-committed [] (commits_from [] es) refl each) in
+pub replay_committed : (es all : List (ℕ × Entry)) (tx : ℕ) (entry : Entry) (was later : Tables) → all ≡ es ++ (tx, entry) ∷ []
+    → was ≡ tables_after [] (commits_from 1 [] es) → AllCommitted (commits_from 1 [] es) → with_table_changes (length es + 1) was (changes_in entry.body) ≡ Some later → AllCommitted (commits_from 1 [] all)
+replay_committed es all tx entry was later grown at each leads =
+    let before : AreCommitted was = subst (λ (ts : Tables). AreCommitted ts) (sym at) (after-committed [] (commits_from 1 [] es) refl each) in
     subst (λ (cs : List Commit). AllCommitted cs)
-    (sym (ap (λ (l : List (ℕ × Entry)). commits_from [] l) grown ∙ one-committed es (tx, entry) was later at leads))
-    (push-committed (commits_from [] es) (commit_to (commits_from [] es) tx entry.branch later) each (changes-committed number lt made was later before (fitted-some (with_table_changes number was made) later fit)))
+    (sym (ap (λ (l : List (ℕ × Entry)). commits_from 1 [] l) grown ∙ one-committed es (tx, entry) was later at leads))
+    (push-committed (commits_from 1 [] es) (commit_to (commits_from 1 [] es) tx entry.branch later) each (changes-committed (length es + 1) (omega arith) (changes_in entry.body) was later before leads))

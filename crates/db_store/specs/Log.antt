@@ -1,17 +1,17 @@
--- Commits as they are kept: what each made of the tables before it; and the branches that have ended.
-use Rattle.std.specs.Prelude.{◌≡◌, ℕ, zero, suc, ◌+◌, ◌&&◌, Bool, true, false, not, IsTrue, if◌then◌else◌, List, [], ◌∷◌, Option, Some, None, nat_eq, slice_get}
+-- Commits as they are kept: the record of each; and the branches that have ended.
+use Rattle.std.specs.Prelude.{◌≡◌, ℕ, zero, suc, ◌+◌, ◌&&◌, Bool, true, false, not, if◌then◌else◌, List, [], ◌∷◌, Option, Some, None, nat_eq, slice_get}
 use Rattle.std.specs.HashMap as hash
 use Rattle.std.specs.HashMap.{HashMap}
 use Rattle.std.specs.HashSet as set
 use Rattle.std.specs.HashSet.{HashSet}
 use Rattle.std.specs.List.{list_all}
 use Rattle.std.specs.Map.{lookup}
-use Rattle.std.specs.Option.{option_map}
+use Rattle.std.specs.Option.{option_map, unwrap_or}
+use Rattle.dl_codec.specs.declared.rows.TableChange.{TableChange}
+use Rattle.db_changes.specs.Made.{changes_in}
 use Rattle.db_changes.specs.Touched.{are_committed}
-use Rattle.db_replay.specs.Applying.{are_new}
-use Rattle.db_replay.specs.Changes.{applied}
 use Rattle.db_store.specs.declared.log.Entry.{Entry}
-use Rattle.meaning_areas.specs.Commits.{Commit, has_number}
+use Rattle.meaning_areas.specs.Commits.{Commit, has_number, with_table_changes}
 use Rattle.meaning_tables.specs.Links.{gives, takes}
 use Rattle.meaning_tables.specs.Tables.{Tables}
 
@@ -34,23 +34,21 @@ commit_between before tx branch tables = record {
   tables = tables;
 }
 
--- what they stand for: each leads from the tables before it to those after its changes
-abbrev pub commits_from : Tables → List (ℕ × Entry) → List Commit
-commits_from before [] = []
-commits_from before (e ∷ es) = commit_between before e.0 e.1.branch (applied before e.1.changes) ∷ commits_from (applied before e.1.changes) es
+-- the tables after the changes of the commit of a number; those before, where the changes do not apply, as those of a kept commit do
+abbrev pub redone : ℕ → Tables → List TableChange → Tables
+redone number before changes = unwrap_or (with_table_changes number before changes) before
 
--- each new table of theirs has a name that no table has when its turn comes
-abbrev pub all_new : Tables → List (ℕ × Entry) → Bool
-all_new before [] = true
-all_new before (e ∷ es) = are_new before e.1.changes && all_new (applied before e.1.changes) es
+-- what they stand for, by the number of the first: each leads from the tables before it to those after the changes of its record
+abbrev pub commits_from : ℕ → Tables → List (ℕ × Entry) → List Commit
+commits_from number before [] = []
+commits_from number before (e ∷ es) =
+    let after = redone number before (changes_in e.1.body) in
+    commit_between before e.0 e.1.branch after ∷ commits_from (number + 1) after es
 
-abbrev pub AllNew : List (ℕ × Entry) → Type 0
-AllNew es = IsTrue (all_new [] es)
-
--- the tables behind the first of some commits
-abbrev pub after_first : Tables → List (ℕ × Entry) → Tables
-after_first before [] = before
-after_first before (e ∷ es) = applied before e.1.changes
+-- the changes of the first of some commits
+abbrev pub first_changes : List (ℕ × Entry) → List TableChange
+first_changes [] = []
+first_changes (e ∷ es) = changes_in e.1.body
 
 -- whether there is a commit, and it has a branch
 abbrev pub has_branch : Option Commit → Bool

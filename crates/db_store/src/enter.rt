@@ -1,44 +1,44 @@
 // One more commit in memory: in the log, and in tables with room for more; and that room.
-ghost use Rattle.std.specs.Prelude.{◌≡◌, ◌+◌, ◌*◌, ◌^◌, ◌≤◌, ◌++◌, ◌∷◌, [], IsTrue, None, OnOk, length};
+ghost use Rattle.std.specs.Prelude.{◌≡◌, ◌+◌, ◌*◌, ◌^◌, ◌≤◌, ◌++◌, ◌∷◌, [], IsTrue, None, OnOk, Some, length};
 ghost use Rattle.dl_base.specs.Limits.{most_tables};
+ghost use Rattle.db_changes.specs.Made.{changes_in};
 ghost use Rattle.db_replay.specs.Applying.{AreNew, is_new, new_by, new_in};
 ghost use Rattle.db_replay.specs.Changes.{apply, applied};
-ghost use Rattle.db_store.specs.Log.{AllNew, commits_from};
-ghost use Rattle.meaning_areas.specs.Commits.{commit_of, commit_to, tables_after};
+ghost use Rattle.db_store.specs.Log.{commits_from};
+ghost use Rattle.meaning_areas.specs.Commits.{commit_of, commit_to, tables_after, with_table_changes};
 
 use crate::ended::Ended;
 use crate::log::{Entry, Log};
 use db_replay::Change;
 use dl_base::limits::MOST_TABLES;
-use dl_base::{List, Memory};
+use dl_base::{List, Memory, Text};
 use sql_table::RoomyTables;
 
-/// Puts a commit at the end of the log, and what it made into the tables, where there is room for both. It takes no memory.
+/// Puts a commit at the end of the log, with the bytes of its record, and what it made into the tables, where there is room for both.
+/// It takes no memory.
 pub fn enter(
     tables: &mut RoomyTables,
     log: &mut Log,
     tx: u64,
     branch: bool,
     changes: List<Change>,
-    again: List<Change>,
+    body: List<u8>,
 )
-    requires again { again ≡ changes }
-    requires at { tables.old.tables ≡ tables_after [] (commits_from [] log.old.entries) }
-    requires all { AllNew log.old.entries }
+    requires body { with_table_changes (length log.old.entries + 1) tables.old.tables (changes_in body) ≡ Some (applied tables.old.tables changes) }
+    requires at { tables.old.tables ≡ tables_after [] (commits_from 1 [] log.old.entries) }
     requires new { AreNew tables.old.tables changes }
-    requires none { commit_of tx (commits_from [] log.old.entries) ≡ None }
+    requires none { commit_of tx (commits_from 1 [] log.old.entries) ≡ None }
     requires room_tables { new_in changes ≤ tables.old.spare }
     requires room_log { 1 ≤ log.old.spare }
-    ensures commits { commits_from [] log.new.entries ≡ commits_from [] log.old.entries ++ commit_to (commits_from [] log.old.entries) tx branch (applied tables.old.tables changes) ∷ [] }
-    ensures at { tables.new.tables ≡ tables_after [] (commits_from [] log.new.entries) }
-    ensures all { AllNew log.new.entries }
+    ensures commits { commits_from 1 [] log.new.entries ≡ commits_from 1 [] log.old.entries ++ commit_to (commits_from 1 [] log.old.entries) tx branch (applied tables.old.tables changes) ∷ [] }
+    ensures at { tables.new.tables ≡ tables_after [] (commits_from 1 [] log.new.entries) }
     ensures spare_tables { tables.old.spare ≤ tables.new.spare + new_in changes }
     ensures spare_log { log.old.spare ≤ log.new.spare + 1 }
 {
     apply_all(tables, changes);
     let entry = Entry {
         branch,
-        changes: again,
+        body: Text::from_vec(body.into_vec()),
     };
     log.push(tx, entry);
 }

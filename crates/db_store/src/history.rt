@@ -1,13 +1,14 @@
 // What the records of the area Rows stand for so far, at an opening.
 ghost use Rattle.std.specs.Prelude.{◌≡◌, ◌+◌, ◌/◌, ◌^◌, ◌≤◌, ◌==◌, ◌&&◌, [], List, IfOk, is_none, length, not};
 ghost use Rattle.std.specs.Bool.{then_some};
-ghost use Rattle.db_store.specs.Log.{AllCommitted, AllNew, commits_from, has_branch, open_branches};
+ghost use Rattle.db_changes.specs.Made.{changes_in};
+ghost use Rattle.db_store.specs.Log.{AllCommitted, commits_from, has_branch, open_branches};
 ghost use Rattle.meaning_areas.specs.Commits.{commit_of, has_number, commits_on, ends_on, no_commits, opens_on, tables_after};
 
 use crate::ended::Ended;
 use crate::log::{Entry, Log};
-use db_replay::{Replayed, replay};
-use dl_base::{List, Memory};
+use db_replay::replay;
+use dl_base::{List, Memory, Text};
 use dl_codec::TableChange;
 use sql_table::Tables;
 use std::alloc::Global;
@@ -25,15 +26,15 @@ pub struct History {
 impl Model for History {
     ghost use Rattle.std.specs.Prelude.{◌≡◌, ◌≤◌, []};
     ghost use Rattle.db_replay.specs.Replaying.{ColumnsStand};
-    ghost use Rattle.db_store.specs.Log.{AllCommitted, AllNew, commits_from, open_branches};
+    ghost use Rattle.db_store.specs.Log.{AllCommitted, commits_from, open_branches};
     ghost use Rattle.meaning_areas.specs.Commits.{Commits, tables_after};
     ghost use Rattle.meaning_tables.specs.Fits.{Fits};
 
     ghost Value = { Commits };
 
-    ghost view = { λ h. record { opening = h.opening; commits = commits_from [] h.log.entries; ended = h.ended.numbers } };
+    ghost view = { λ h. record { opening = h.opening; commits = commits_from 1 [] h.log.entries; ended = h.ended.numbers } };
 
-    ghost invariant = { λ h. (h.tables ≡ tables_after [] (commits_from [] h.log.entries)) × AllNew h.log.entries × Fits h.tables × ColumnsStand h.tables × AllCommitted (commits_from [] h.log.entries) × (open_branches h.ended.numbers (commits_from [] h.log.entries) ≤ h.ended.spare) };
+    ghost invariant = { λ h. (h.tables ≡ tables_after [] (commits_from 1 [] h.log.entries)) × Fits h.tables × ColumnsStand h.tables × AllCommitted (commits_from 1 [] h.log.entries) × (open_branches h.ended.numbers (commits_from 1 [] h.log.entries) ≤ h.ended.spare) };
 }
 
 impl History {
@@ -90,8 +91,8 @@ impl History {
             && tx / 4_294_967_296 == u64::from(self.opening)
     }
 
-    /// Takes a commit, and says whether the tables after its changes fit, and it is the next one.
-    #[tactic(auto, using(crate::proofs::HistoryLaws::commits_none, crate::proofs::HistoryLaws::commits_unfit, crate::proofs::HistoryLaws::commits_fit, crate::proofs::HistoryLaws::none_open, crate::proofs::HistoryLaws::after_all, crate::proofs::HistoryLaws::new_all))]
+    /// Takes a commit, whose record has these bytes, and says whether the tables after its changes fit, and it is the next one.
+    #[tactic(auto, using(crate::proofs::HistoryLaws::commits_none, crate::proofs::HistoryLaws::commits_unfit, crate::proofs::HistoryLaws::commits_fit, crate::proofs::HistoryLaws::none_open, crate::proofs::HistoryLaws::after_all))]
     pub fn commits(
         &mut self,
         alloc: Global,
@@ -99,7 +100,9 @@ impl History {
         number: u64,
         branch: bool,
         changes: &List<TableChange>,
+        body: Text,
     ) -> Result<bool, Memory>
+        requires { changes_in body ≡ changes.now }
         ensures { IfOk result (λ taken. commits_on self.old tx number branch changes.now ≡ then_some taken self.new) }
     {
         if !self.is_next(tx, number) {
@@ -108,10 +111,9 @@ impl History {
         self.log.make_room(1)?;
         self.ended.make_room(self.log.len() + 1)?;
         match replay(alloc, &self.tables, number, changes)? {
-            Some(replayed) => {
-                let Replayed { tables, changes } = replayed;
+            Some(tables) => {
                 self.tables = tables;
-                self.log.push(tx, Entry { branch, changes });
+                self.log.push(tx, Entry { branch, body });
                 Ok(true)
             }
             None => Ok(false),
@@ -121,9 +123,8 @@ impl History {
     /// The tables behind the last commit, the commits, the last opening, and the ended branches, with room for those that have not
     /// ended. It takes no memory.
     pub fn into_parts(self) -> (Tables, Log, u32, Ended)
-        ensures parts { self ≡ record { opening = result.2; commits = commits_from [] result.1.entries; ended = result.3.numbers } }
+        ensures parts { self ≡ record { opening = result.2; commits = commits_from 1 [] result.1.entries; ended = result.3.numbers } }
         ensures tables { result.0 ≡ tables_after [] self.commits }
-        ensures new { AllNew result.1.entries }
         ensures committed { AllCommitted self.commits }
         ensures room { open_branches result.3.numbers self.commits ≤ result.3.spare }
     {

@@ -1,8 +1,8 @@
-//! The commits of the database, in memory and in the area Rows: the committed tables, those after each earlier commit, the numbers
-//! of transactions, and the branches that have ended.
+//! The commits of the database, in memory and in the area Rows: the committed tables, those after each earlier commit, made again from
+//! the records, the numbers of transactions, and the branches that have ended.
 #![tactic(auto)]
 
-mod apply;
+mod earlier;
 mod ended;
 mod enter;
 mod fold;
@@ -11,4 +11,4 @@ mod log;
 mod store;
 mod write;
 
-pub use store::Store;
+pub use store::{NextCommit, Store};

@@ -6,17 +6,16 @@ ghost use Rattle.std.specs.Option.{option_map};
 ghost use Rattle.db_store.specs.Log.{commit_numbered, commits_from, has_branch};
 ghost use Rattle.meaning_areas.specs.Commits.{commit_of};
 
-use db_replay::Change;
-use dl_base::{List, Memory};
+use dl_base::{Memory, Text};
 use std::alloc::Global;
 use std::collections::HashMap;
 use std::marker::Model;
 
-/// A commit: whether its transaction has a branch, and what it made of the tables before it.
+/// A commit: whether its transaction has a branch, and the bytes of its record.
 #[derive(Drop)]
 pub struct Entry {
     pub branch: bool,
-    pub changes: List<Change>,
+    pub body: Text,
 }
 
 /// Commits by transaction number: the list of them in order, and by number whether a transaction has a branch. Contracts see the
@@ -54,7 +53,7 @@ impl Log {
     /// How many commits there are.
     pub fn len(&self) -> usize
         ensures value { result ≡ length self.now.entries }
-        ensures commits { result ≡ length (commits_from [] self.now.entries) }
+        ensures commits { result ≡ length (commits_from 1 [] self.now.entries) }
         ensures small { result < 2 ^ 63 }
     {
         self.entries.len()
@@ -74,21 +73,21 @@ impl Log {
     /// Whether a transaction has a commit. It takes no memory.
     pub fn has(&self, tx: u64) -> bool
         ensures entry { result ≡ is_some (lookup (λ k. nat_eq tx k) self.now.entries) }
-        ensures commit { result ≡ is_some (commit_of tx (commits_from [] self.now.entries)) }
+        ensures commit { result ≡ is_some (commit_of tx (commits_from 1 [] self.now.entries)) }
     {
         self.branches.contains_key(&tx)
     }
 
     /// Whether a transaction has no commit. It takes no memory.
     pub fn lacks(&self, tx: u64) -> bool
-        ensures { result ≡ is_none (commit_of tx (commits_from [] self.now.entries)) }
+        ensures { result ≡ is_none (commit_of tx (commits_from 1 [] self.now.entries)) }
     {
         !self.has(tx)
     }
 
     /// Whether a transaction has a commit with a branch. It takes no memory.
     pub fn has_branch(&self, tx: u64) -> bool
-        ensures { result ≡ has_branch (commit_of tx (commits_from [] self.now.entries)) }
+        ensures { result ≡ has_branch (commit_of tx (commits_from 1 [] self.now.entries)) }
     {
         match self.branches.get(&tx) {
             Some(branch) => *branch,
@@ -100,7 +99,7 @@ impl Log {
     /// memory.
     #[tactic(auto, using(crate::proofs::LogLaws::at_back))]
     pub fn commit_at(&self, commit: u64) -> Option<(u64, bool)>
-        ensures { result ≡ option_map (λ c. (c.tx, c.branch)) (commit_numbered (commits_from [] self.now.entries) commit) }
+        ensures { result ≡ option_map (λ c. (c.tx, c.branch)) (commit_numbered (commits_from 1 [] self.now.entries) commit) }
     {
         if commit == 0 {
             return None;

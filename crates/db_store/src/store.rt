@@ -16,18 +16,18 @@ ghost use Rattle.dl_base.specs.Limits.{most_numbers};
 ghost use Rattle.meaning_areas.specs.Full.{draw_full};
 ghost use Rattle.meaning_areas.specs.Stands.{past};
 ghost use Rattle.db_changes.specs.Made.{record_of};
-ghost use Rattle.db_changes.specs.Touched.{AreCommitted};
-ghost use Rattle.db_store.specs.Log.{AllCommitted, AllNew, commit_numbered, open_branches};
+ghost use Rattle.db_changes.specs.Touched.{AreCommitted, Covers};
+ghost use Rattle.db_store.specs.Log.{AllCommitted, commit_numbered, open_branches};
 ghost use Rattle.db_store.specs.Store.{CanEnd, IsTaken, commit_write, committed_with, drawn_next, ended_write, extent, opening_write, reopened, rows_in};
 
-use crate::apply::{next_tables, past_tables};
+use crate::earlier::{next_beside, next_tables, past_tables};
 use crate::ended::Ended;
 use crate::enter::{enter, make_room};
 use crate::fold::fold;
 use crate::history::History;
 use crate::log::Log;
 use crate::write::write;
-use db_changes::Made;
+use db_changes::{Made, TouchedRows};
 use dl_areas::an_append_writes_one_record;
 use dl_base::limits::MOST_NUMBERS;
 use dl_base::{AppendFault, Area, BeginFault, Bench, Full, Memory};
@@ -51,25 +51,32 @@ pub struct Store {
     drawn: u32,
 }
 
+/// The tables after a commit, and the rows beside which they have the rows of those before.
+#[derive(Drop)]
+pub struct NextCommit {
+    pub tables: Tables,
+    pub touched: TouchedRows,
+}
+
 impl Model for Store {
     ghost use Rattle.std.specs.Prelude.{◌≡◌, ◌≤◌, ◌-◌, ◌/◌, [], min};
     ghost use Rattle.dl_base.specs.Limits.{most_tables};
     ghost use Rattle.dl_base.specs.declared.area.Area.TheVariants as areas;
-    ghost use Rattle.db_store.specs.Log.{AllCommitted, AllNew, commits_from, open_branches};
+    ghost use Rattle.db_store.specs.Log.{AllCommitted, commits_from, open_branches};
     ghost use Rattle.db_store.specs.Store.{Database};
     ghost use Rattle.meaning_areas.specs.Commits.{tables_after};
 
     ghost Value = { Database };
 
     ghost view = { λ s. record {
-      rows = record { opening = s.opening; commits = commits_from [] s.log.entries; ended = s.ended.numbers };
+      rows = record { opening = s.opening; commits = commits_from 1 [] s.log.entries; ended = s.ended.numbers };
       drawn = s.drawn;
-      spare = min (min s.log.spare (s.tables.spare / most_tables)) (s.ended.spare - open_branches s.ended.numbers (commits_from [] s.log.entries));
+      spare = min (min s.log.spare (s.tables.spare / most_tables)) (s.ended.spare - open_branches s.ended.numbers (commits_from 1 [] s.log.entries));
       length = s.journal.length;
       limit = s.journal.limit;
     } };
 
-    ghost invariant = { λ s. (s.journal.area ≡ areas.Rows) × (s.tables.tables ≡ tables_after [] (commits_from [] s.log.entries)) × AllNew s.log.entries × AllCommitted (commits_from [] s.log.entries) × (open_branches s.ended.numbers (commits_from [] s.log.entries) ≤ s.ended.spare) };
+    ghost invariant = { λ s. (s.journal.area ≡ areas.Rows) × (s.tables.tables ≡ tables_after [] (commits_from 1 [] s.log.entries)) × AllCommitted (commits_from 1 [] s.log.entries) × (open_branches s.ended.numbers (commits_from 1 [] s.log.entries) ≤ s.ended.spare) };
 }
 
 impl Store {
@@ -97,7 +104,7 @@ impl Store {
         ensures device { result ≡ Err BeginFault.Device → FaultCounted (B.outside bench.old) (B.outside bench.new) }
     {
         let (journal, bodies) = Journal::begin(alloc, bench, Area::Rows, limit)?;
-        let history = fold(alloc, &bodies)?;
+        let history = fold(alloc, bodies)?;
         Ok(opened(alloc, journal, history))
     }
 
@@ -133,9 +140,9 @@ impl Store {
         &self.tables
     }
 
-    /// The tables after a commit, none after commit 0; None exactly where there is no such commit. They share what they have with
-    /// other tables; the cost grows with the number of changes of the commits up to it, and with that of the tables. The error is
-    /// want of memory, and changes nothing.
+    /// The tables after a commit, none after commit 0; None exactly where there is no such commit. They are made again from the records
+    /// of the commits up to it: it takes the time and the memory that these take at an opening. The error is want of memory, and
+    /// changes nothing.
     pub fn past(&self, commit: u64) -> Result<Option<Tables>, Memory>
         ensures tables { IfOk result (λ tables. tables ≡ past [] self.now.rows.commits commit) }
         ensures committed { IfOk result (λ tables. IfSome tables AreCommitted) }
@@ -144,15 +151,32 @@ impl Store {
     }
 
     /// The tables after a commit, from 1, from those before it; None exactly where there is no such commit. So going through all
-    /// commits does the changes of each once. They share what they have with other tables; the cost grows with the number of changes
-    /// of this commit, and with the number of tables. The error is want of memory, and changes nothing.
+    /// commits does the changes of each once. They share what they have with those before; the cost grows with the bytes of this
+    /// commit's record, and with the number of tables. The error is want of memory, and changes nothing.
     pub fn next(&self, commit: u64, before: Tables) -> Result<Option<Tables>, Memory>
         requires first { 1 ≤ commit }
         requires before { past [] self.now.rows.commits (commit - 1) ≡ Some before }
         ensures tables { IfOk result (λ tables. tables ≡ past [] self.now.rows.commits commit) }
         ensures committed { IfOk result (λ tables. IfSome tables AreCommitted) }
     {
-        next_tables(&self.log, commit, before)
+        let later = next_tables(self.alloc, &self.log, commit, &before);
+        drop(before);
+        later
+    }
+
+    /// The same from tables that stay, and the rows beside which those after the commit have the rows of those before it: the rows that
+    /// its record names, and all that a table had which it drops. The cost is that of `next`.
+    pub fn next_beside(&self, commit: u64, before: &Tables) -> Result<Option<NextCommit>, Memory>
+        requires first { 1 ≤ commit }
+        requires before { past [] self.now.rows.commits (commit - 1) ≡ Some before.now }
+        ensures tables { IfOk result (λ made. option_map (λ m. m.tables) made ≡ past [] self.now.rows.commits commit) }
+        ensures committed { IfOk result (λ made. IfSome made (λ m. AreCommitted m.tables)) }
+        ensures covers { IfOk result (λ made. IfSome made (λ m. Covers m.touched before.now m.tables)) }
+    {
+        match next_beside(self.alloc, &self.log, commit, before)? {
+            Some((tables, touched)) => Ok(Some(NextCommit { tables, touched })),
+            None => Ok(None),
+        }
     }
 
     /// How many commits there are.
@@ -248,10 +272,10 @@ impl Store {
         let tx = made.tx();
         let branch = made.branch();
         let number = self.log.len() as u64 + 1;
-        let (body, changes, again) = made.parts(number);
+        let (body, changes) = made.parts(number);
         match write(&mut self.journal, bench, body.as_slice()) {
             Ok(()) => {
-                enter(&mut self.tables, &mut self.log, tx, branch, changes, again);
+                enter(&mut self.tables, &mut self.log, tx, branch, changes, body);
                 Ok(number)
             }
             Err(fault) => Err(fault),

@@ -8,4 +8,4 @@ use Rattle.compare_links.proofs.agree.tables_agree.Given as goal
 
 -- the links of all tables agree if those of the tables that are left do
 abbrev pub invariant-loop-i : goal.invariant-loop-i
-invariant-loop-i l = all_agree (get (slice_cmp nat_cmp) l.rows) (links (drop l.i l.tables)) ≡ all_agree (get (slice_cmp nat_cmp) l.rows) (links l.tables)
+invariant-loop-i l = all_agree (get (slice_cmp nat_cmp) l.rows) (links (drop l.i l.after)) ≡ all_agree (get (slice_cmp nat_cmp) l.rows) (links l.after)

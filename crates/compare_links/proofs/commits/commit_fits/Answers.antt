@@ -33,8 +33,8 @@ returns-clause-fits c =
     let on_has : c.is_branch.result ≡ true = search rules in
     let has : IsBranch p.branch (gives c.args.before.now p.tables) (takes c.args.before.now p.tables) (maps.get table p.tx) =
     branch-same p.branch c.in_ok-gives.gives (gives c.args.before.now p.tables) c.in_ok-gives.takes (takes c.args.before.now p.tables) _ (maps.get table p.tx) gave took c.branch-branch.ensures (c.is_branch.ensures.0 on_has) in
-    if_ok c.links_fit-fits.result c.links_fit-fits.ensures.fit (λ b e. step-decides r table c.args.number paths known (commit_between c.args.before.now p.tx p.branch p.tables) b has done drawn
-    (e ∙ (λ i. are_drawn (c.opening.ensures i) (took i) && all_agree known (links (c.in_ok-touched.ensures.tables i)) && are_free (without_paths (gave i) paths) (took i))))
+    if_ok c.links_fit-fits.result c.links_fit-fits.ensures.fit (λ b e. step-decides r table paths known (commit_between c.args.before.now p.tx p.branch p.tables) b has done drawn
+    (e ∙ (λ i. are_drawn (c.opening.ensures i) (took i) && all_agree known (links p.tables) && are_free (without_paths (gave i) paths) (took i))))
 
 pub returns-clause-paths : goal.returns-clause-paths
 returns-clause-paths c =

@@ -12,7 +12,7 @@ use Rattle.fm_branch.proofs.Maps.{get-of}
 use Rattle.meaning_settling.specs.Keyed.{Keyed}
 use Rattle.meaning_tables.specs.Tables.{Tables}
 use Rattle.compare_links.proofs.Going.{walked-all, walked-more, walked-none, walked-not}
-use Rattle.compare_links.proofs.Steps.{step-at}
+use Rattle.compare_links.proofs.Walks.{commit-at}
 use Rattle.compare_links.specs.Fitting.{CommitsFit}
 use Rattle.compare_links.proofs.commits.commits_fit.Goals as goal
 
@@ -24,13 +24,8 @@ loop-index-init c = record {
       (λ n. ap (λ (es : List (List ℕ × LinkRow)). lookup (at_query (slice_cmp nat_cmp n)) es) c.new-2.ensures.empty);
 }
 
-pub commit_fits-requires-clause-step : goal.commit_fits-requires-clause-step
-commit_fits-requires-clause-step c =
-    let p = c.in_ok-passed.passed in
-    step-at c.loop-index.before (commit_between c.loop-index.before p.tx p.branch p.tables) c.args.store.now.rows.commits c.loop-index.index c.requires.steps c.loop-index.invariant.before c.in_ok-passed.ensures.commit
-
-pub commit_fits-requires-clause-before : goal.commit_fits-requires-clause-before
-commit_fits-requires-clause-before c = c.loop-index.invariant.walked.fits
+pub commit_fits-requires-clause-has : goal.commit_fits-requires-clause-has
+commit_fits-requires-clause-has c = c.loop-index.invariant.walked.has
 
 pub returns-then-not-branch : goal.returns-then-not-branch
 returns-then-not-branch c =
@@ -38,7 +33,7 @@ returns-then-not-branch c =
     let i = c.loop-index.index in
     let off : c.in_ok-commit_fits.field-0 ≡ false = search rules in
     walked-not c.args.store.now.rows c.args.branches.now.links.table i c.loop-index.before p.tables p.tx p.branch (contains (slice_cmp nat_cmp) c.loop-index.known.paths) (get (slice_cmp nat_cmp) c.loop-index.known.rows)
-    c.in_ok-passed.ensures.commit (step-at c.loop-index.before (commit_between c.loop-index.before p.tx p.branch p.tables) c.args.store.now.rows.commits i c.requires.steps c.loop-index.invariant.before c.in_ok-passed.ensures.commit)
+    c.in_ok-passed.ensures.commit (c.requires.fit (commit_between c.loop-index.before p.tx p.branch p.tables) (commit-at (commit_between c.loop-index.before p.tx p.branch p.tables) c.args.store.now.rows.commits i c.in_ok-passed.ensures.commit))
     c.loop-index.invariant.walked c.in_ok-commit_fits.field-0 c.in_ok-commit_fits.ensures.fits off
 
 pub loop-index-preserved : goal.loop-index-preserved
@@ -49,7 +44,7 @@ loop-index-preserved c =
     record {
       before = c.in_ok-passed.ensures.past;
       walked = walked-more c.args.store.now.rows c.args.branches.now.links.table i c.loop-index.before p.tables p.tx p.branch (contains (slice_cmp nat_cmp) c.loop-index.known.paths) (get (slice_cmp nat_cmp) c.loop-index.known.rows)
-          c.in_ok-passed.ensures.commit (step-at c.loop-index.before (commit_between c.loop-index.before p.tx p.branch p.tables) c.args.store.now.rows.commits i c.requires.steps c.loop-index.invariant.before c.in_ok-passed.ensures.commit)
+          c.in_ok-passed.ensures.commit (c.requires.fit (commit_between c.loop-index.before p.tx p.branch p.tables) (commit-at (commit_between c.loop-index.before p.tx p.branch p.tables) c.args.store.now.rows.commits i c.in_ok-passed.ensures.commit))
           c.loop-index.invariant.walked (c.in_ok-commit_fits.ensures.fits.0 on) (contains (slice_cmp nat_cmp) c.commit_fits.new.known.paths) (get (slice_cmp nat_cmp) c.commit_fits.new.known.rows)
           (c.in_ok-commit_fits.ensures.paths on) (c.in_ok-commit_fits.ensures.rows on);
     }

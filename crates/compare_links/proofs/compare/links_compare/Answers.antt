@@ -3,16 +3,15 @@ use Rattle.dl_base.specs.declared.value.LinkRow.{LinkRow}
 use Rattle.meaning_settling.specs.Keyed.{Keyed}
 use Rattle.compare_every.proofs.Deciding.{refuted}
 use Rattle.compare_links.proofs.Fits.{alike, last-paths, unlike}
-use Rattle.compare_links.proofs.Folded.{own-paths}
-use Rattle.compare_links.proofs.Steps.{rows-stepped}
+use Rattle.compare_links.proofs.Folded.{own-paths, rows-fit}
 use Rattle.compare_links.specs.Fitting.{CommitFits, CommitsFit}
 use Rattle.compare_links.proofs.compare.links_compare.Goals as goal
 
 pub commits_fit-requires-clause-moved : goal.commits_fit-requires-clause-moved
 commits_fit-requires-clause-moved c = (c.commits_have_what_they_moved.ensures c.requires.rows.0 c.args.store.now.rows c.requires.rows.1).1
 
-pub commits_fit-requires-clause-steps : goal.commits_fit-requires-clause-steps
-commits_fit-requires-clause-steps c = rows-stepped c.requires.rows.0 c.args.store.now.rows c.requires.rows.1
+pub commits_fit-requires-clause-fit : goal.commits_fit-requires-clause-fit
+commits_fit-requires-clause-fit c = rows-fit c.requires.rows.0 c.args.store.now.rows c.requires.rows.1
 
 pub returns-then-not-branch : goal.returns-then-not-branch
 returns-then-not-branch c =

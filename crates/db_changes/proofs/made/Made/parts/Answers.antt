@@ -4,7 +4,7 @@ use Rattle.dl_base.specs.Limits.{most_tables}
 use Rattle.dl_codec.specs.Rows.{rows_record}
 use Rattle.db_changes.specs.Handles.{NewLast}
 use Rattle.db_changes.specs.Made.{Making, changes_in, record_of}
-use Rattle.db_changes.proofs.Spelled.{is_long, other_fits, other_number}
+use Rattle.db_changes.proofs.Spelled.{changes_read, is_long, other_fits, other_number}
 use Rattle.db_replay.specs.Applying.{new_in}
 use Rattle.std.proofs.lemmas.Grind.{common_steps}
 use Rattle.db_changes.proofs.made.Made.parts.Goals as goal
@@ -35,8 +35,14 @@ returns-clause-some c = subst (λ (s : Making). 1 ≤ s.rooms) c.self.view_is c.
 pub returns-clause-order : goal.returns-clause-order
 returns-clause-order c = subst (λ (s : Making). NewLast s.handles) c.self.view_is c.self.invariant.order
 
-pub returns-clause-again : goal.returns-clause-again
-returns-clause-again c = grind (arith, common_steps)
+pub returns-clause-changes : goal.returns-clause-changes
+returns-clause-changes c =
+    let m = c.self.inside in
+    let changes = changes_in m.body in
+    changes_read c.rows_records_have_one_spelling.ensures m.tx c.args.number m.branch changes c.numbered.result
+    (c.numbered.ensures ∙ ap (λ (bytes : List ℕ). take 9 bytes ++ to_be_bytes w64 c.args.number ++ drop 17 bytes) c.self.invariant.body ∙ other_number m.tx 0 c.args.number m.branch changes)
+    (other_fits m.tx 0 c.args.number m.branch changes c.ranges.number.fits c.self.invariant.fits)
+    ∙ ap (λ (s : Making). s.changes) c.self.view_is
 
 pub returns-clause-handles : goal.returns-clause-handles
 returns-clause-handles c = grind (arith, common_steps)

@@ -14,5 +14,5 @@ returns-clause-entry c =
 pub returns-clause-commit : goal.returns-clause-commit
 returns-clause-commit c =
     has_known c.self.inside.branches c.self.inside.entries.items c.args.tx c.contains_key.result c.self.invariant c.contains_key.ensures
-    ∙ sym (has_entry c.args.tx [] c.self.inside.entries.items)
-    ∙ ap (λ (l : Log). is_some (commit_of c.args.tx (commits_from [] l.entries))) c.self.view_is
+    ∙ sym (has_entry c.args.tx c.self.inside.entries.items)
+    ∙ ap (λ (l : Log). is_some (commit_of c.args.tx (commits_from 1 [] l.entries))) c.self.view_is

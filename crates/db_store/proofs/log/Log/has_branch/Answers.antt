@@ -9,10 +9,10 @@ pub returns-in-Some : goal.returns-in-Some
 returns-in-Some c =
     let value : Some c.in-Some.branch.now ≡ get nat_eq c.self.inside.branches c.args.tx = search rules in
     branch_back c.args.tx c.self.inside.entries.items (Some c.in-Some.branch.now) (value ∙ c.self.invariant c.args.tx)
-    ∙ ap (λ (l : Log). has_branch (commit_of c.args.tx (commits_from [] l.entries))) c.self.view_is
+    ∙ ap (λ (l : Log). has_branch (commit_of c.args.tx (commits_from 1 [] l.entries))) c.self.view_is
 
 pub returns-in-None : goal.returns-in-None
 returns-in-None c =
     let value : None ≡ get nat_eq c.self.inside.branches c.args.tx = search rules in
     branch_back c.args.tx c.self.inside.entries.items None (value ∙ c.self.invariant c.args.tx)
-    ∙ ap (λ (l : Log). has_branch (commit_of c.args.tx (commits_from [] l.entries))) c.self.view_is
+    ∙ ap (λ (l : Log). has_branch (commit_of c.args.tx (commits_from 1 [] l.entries))) c.self.view_is

@@ -5,4 +5,4 @@ use Rattle.db_store.proofs.log.Log.len.Goals as goal
 pub returns-clause-commits : goal.returns-clause-commits
 returns-clause-commits c =
     let entries : c.len.result ≡ length c.args.self.now.entries = search rules in
-    entries ∙ sym (length-commits [] c.args.self.now.entries)
+    entries ∙ sym (length-commits 1 [] c.args.self.now.entries)

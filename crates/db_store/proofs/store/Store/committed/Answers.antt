@@ -6,4 +6,4 @@ use Rattle.db_store.specs.Log.{commits_from}
 use Rattle.db_store.proofs.store.Store.committed.Goals as goal
 
 pub returns-clause-committed : goal.returns-clause-committed
-returns-clause-committed c = subst (λ (ts : Tables). AreCommitted ts) (sym c.self.invariant.1) (after-committed [] (commits_from [] c.self.inside.log.entries) refl c.self.invariant.3)
+returns-clause-committed c = subst (λ (ts : Tables). AreCommitted ts) (sym c.self.invariant.1) (after-committed [] (commits_from 1 [] c.self.inside.log.entries) refl c.self.invariant.2)

@@ -10,8 +10,8 @@ use Rattle.db_store.proofs.store.Store.ended.Goals as goal
 pub put-requires-clause-room : goal.put-requires-clause-room
 put-requires-clause-room g c =
     let r = c.args.self.now.rows in
-    end_room r c.self.inside.opening (commits_from [] c.self.inside.log.entries) c.self.inside.ended.numbers (ap (λ (x : Database). x.rows) c.self.view_is) c.args.tx (can_end r c.args.tx c.requires.taken)
-    c.self.inside.ended.spare c.self.invariant.4
+    end_room r c.self.inside.opening (commits_from 1 [] c.self.inside.log.entries) c.self.inside.ended.numbers (ap (λ (x : Database). x.rows) c.self.view_is) c.args.tx (can_end r c.args.tx c.requires.taken)
+    c.self.inside.ended.spare c.self.invariant.3
 
 pub invariant_of-self : goal.invariant_of-self
 invariant_of-self g c =
@@ -19,15 +19,14 @@ invariant_of-self g c =
       search rules,
       c.self.invariant.1,
       c.self.invariant.2,
-      c.self.invariant.3,
-      end_keeps r c.self.inside.opening (commits_from [] c.self.inside.log.entries) c.self.inside.ended.numbers (ap (λ (x : Database). x.rows) c.self.view_is) c.args.tx (can_end r c.args.tx c.requires.taken)
-          c.put.new.self.numbers c.self.inside.ended.spare c.put.new.self.spare c.put.ensures.numbers c.self.invariant.4 c.put.ensures.spare,
+      end_keeps r c.self.inside.opening (commits_from 1 [] c.self.inside.log.entries) c.self.inside.ended.numbers (ap (λ (x : Database). x.rows) c.self.view_is) c.args.tx (can_end r c.args.tx c.requires.taken)
+          c.put.new.self.numbers c.self.inside.ended.spare c.put.new.self.spare c.put.ensures.numbers c.self.invariant.3 c.put.ensures.spare,
     )
 
 pub returns-in-Ok-clause-spare : goal.returns-in-Ok-clause-spare
 returns-in-Ok-clause-spare g c =
     let r = c.args.self.now.rows in
-    let cs = commits_from [] c.self.inside.log.entries in
+    let cs = commits_from 1 [] c.self.inside.log.entries in
     let ended = c.self.inside.ended.numbers in
     let room = min c.self.inside.log.spare (c.self.inside.tables.spare / most_tables) in
     let later = open_branches c.put.new.self.numbers cs in
